@@ -1,0 +1,2 @@
+pub mod Radices
+pub mod Dealing

@@ -1,0 +1,1 @@
+// Spectra over any arithmetic: deal the samples, then one stage for each radix, where they stand.
