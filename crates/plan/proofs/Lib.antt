@@ -1,0 +1,12 @@
+pub mod Sizes
+pub mod Places
+pub mod Deals
+pub mod Sound
+pub mod Scans
+pub mod Growing
+pub mod Taking
+pub mod Digits
+pub mod Judging
+pub mod Primes
+pub mod Factoring
+pub mod Granting

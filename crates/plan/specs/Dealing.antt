@@ -19,3 +19,8 @@ dealt d (r ∷ rs) a = joined (λ q. dealt d rs (every d r (size rs) a q)) (coun
 abbrev pub place : List ℕ → ℕ → ℕ
 place [] n = 0
 place (r ∷ rs) n = (n % r) * size rs + place rs (n / r)
+
+-- which sample comes to place p
+abbrev pub source : List ℕ → ℕ → ℕ
+source [] p = 0
+source (r ∷ rs) p = p / size rs + r * source rs (p % size rs)

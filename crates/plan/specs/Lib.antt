@@ -1,2 +1,9 @@
 pub mod Radices
 pub mod Dealing
+pub mod Faults
+pub mod Planned
+pub mod Standard
+pub mod ByPlaces
+pub mod Judged
+pub mod Cases
+pub mod Lengths

@@ -1,1 +1,18 @@
 // Spectra over any arithmetic: deal the samples, then one stage for each radix, where they stand.
+mod convolving;
+mod engine;
+mod fault;
+mod inverses;
+mod tested;
+mod theorems;
+mod transforms;
+
+pub use convolving::convolve;
+pub use fault::Fault;
+pub use fault::FaultFromFile;
+pub use fault::FaultFromPlan;
+pub use fault::Layer;
+pub use inverses::inverse;
+pub use tested::granted;
+pub use theorems::spectra_stand;
+pub use transforms::transform;

@@ -1,0 +1,1 @@
+// Lemmas only: what the proofs of several crates share.

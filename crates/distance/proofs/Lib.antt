@@ -1,0 +1,16 @@
+pub mod Lists
+pub mod Totals
+pub mod Quarters
+pub mod Defects
+pub mod Turns
+pub mod Near
+pub mod Whole
+pub mod Errors
+pub mod Stages
+pub mod Steps
+pub mod Exactly
+pub mod Plans
+pub mod Following
+pub mod Unwrapped
+pub mod Entered
+pub mod Distance

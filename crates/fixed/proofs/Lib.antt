@@ -1,0 +1,4 @@
+pub mod Words
+pub mod Rounding
+pub mod Range
+pub mod Turning

@@ -1,0 +1,5 @@
+mod Granting
+mod Reporting
+mod Samples
+mod Spectra
+mod Texts

@@ -1,0 +1,3 @@
+pub mod Pressures
+pub mod Root
+pub mod Worked

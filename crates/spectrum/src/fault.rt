@@ -1,0 +1,92 @@
+// Why a call is refused, and whose doing it is.
+ghost use mathlib.Core.Path.{_≡_};
+ghost use Rattle.spectrum.specs.declared.fault.Fault.the-variants.{File as OfFile, Plan as OfPlan};
+ghost use Rattle.spectrum.specs.Faults.{number-of, layer-of, place-of, layer-number};
+use plan::PlanFault;
+use stroke::FileFault;
+
+#[derive(Clone, Copy)]
+pub enum Fault {
+    File(FileFault),
+    Plan(PlanFault),
+    // This length does not divide the arithmetic's span.
+    Span(usize),
+    // The arithmetic is not of the kind that the call needs.
+    Unfit,
+    // A buffer is not of the stated length.
+    Length,
+    // The work buffer is too short.
+    Work,
+}
+
+// Who can mend a fault: whoever wrote the file, chose the length, or lent the memory.
+#[derive(Clone, Copy)]
+pub enum Layer {
+    File,
+    Length,
+    Memory,
+}
+
+pub impl From<FileFault> for Fault as FaultFromFile {
+    ghost converts = { λ f r. r ≡ OfFile f };
+
+    fn from(f: FileFault) -> Fault {
+        Fault::File(f)
+    }
+}
+
+pub impl From<PlanFault> for Fault as FaultFromPlan {
+    ghost converts = { λ f r. r ≡ OfPlan f };
+
+    fn from(f: PlanFault) -> Fault {
+        Fault::Plan(f)
+    }
+}
+
+impl Fault {
+    pub fn number(self) -> u8
+        ensures answer { λ r. ⌜ r ≡ number-of self ⌝ }
+    {
+        match self {
+            Fault::File(f) => f.number(),
+            Fault::Plan(f) => f.number(),
+            Fault::Span(_) => 24,
+            Fault::Unfit => 26,
+            Fault::Length => 31,
+            Fault::Work => 32,
+        }
+    }
+
+    pub fn layer(self) -> Layer
+        ensures answer { λ r. ⌜ r ≡ layer-of self ⌝ }
+    {
+        match self {
+            Fault::File(_) => Layer::File,
+            Fault::Plan(_) => Layer::Length,
+            Fault::Span(_) | Fault::Unfit | Fault::Length | Fault::Work => Layer::Memory,
+        }
+    }
+
+    pub fn place(self) -> usize
+        ensures answer { λ r. ⌜ r ≡ place-of self ⌝ }
+    {
+        match self {
+            Fault::File(f) => f.place(),
+            Fault::Plan(f) => f.place(),
+            Fault::Span(n) => n,
+            Fault::Unfit | Fault::Length | Fault::Work => 0,
+        }
+    }
+}
+
+impl Layer {
+    pub fn number(self) -> u8
+        ensures answer { λ r. ⌜ r ≡ layer-number self ⌝ }
+    {
+        match self {
+            Layer::File => 1,
+            Layer::Length => 2,
+            Layer::Memory => 3,
+        }
+    }
+}

@@ -1,0 +1,333 @@
+#!/usr/bin/env python3
+"""The stroke program a second time, in Python, written from docs/ alone.
+
+It shares nothing with the Rattle code, so that the two can be held against each other.
+
+    python3 tools/reference.py tones FILE     prints what `tones` prints for the stroke file FILE
+    python3 tools/reference.py write          writes samples/, and what the gate runs and expects:
+                                              crates/tones/{stdin,stdout}, crates/cases/{args,data,stdout}
+    python3 tools/reference.py check          says whether those files are what `write` would write
+"""
+import math
+import os
+import struct
+import sys
+
+# --- the fixed arithmetic: docs/ARITHMETICS.md
+
+S = 1 << 30
+SPAN = 512
+
+
+def make_table():
+    table = [None] * 512
+    table[0], table[128] = (S, 0), (0, S)
+    for h in (64, 32, 16, 8, 4, 2, 1):
+        for j in range(h, 128, 2 * h):
+            a = table[j - h][0] + table[j + h][0]
+            b = table[j - h][1] + table[j + h][1]
+            r = math.isqrt(a * a + b * b)
+            table[j] = ((2 * S * a + r) // (2 * r), (2 * S * b + r) // (2 * r))
+    for j in range(0, 384):
+        c, s = table[j]
+        table[j + 128] = (-s, c)
+    return table
+
+
+TABLE = make_table()
+
+
+def wrap(z):
+    """z brought into 32 signed bits by a multiple of 2^32."""
+    return (z + 2**31) % 2**32 - 2**31
+
+
+def turn(value, e):
+    (x, y), (c, s) = value, TABLE[e % SPAN]
+    return wrap((x * c + y * s + 2**29) // S), wrap((y * c - x * s + 2**29) // S)
+
+
+def add(a, b):
+    return wrap(a[0] + b[0]), wrap(a[1] + b[1])
+
+
+# --- plans and the recursion: docs/TRANSFORM.md
+
+
+class Refused(Exception):
+    def __init__(self, number, layer, place):
+        super().__init__(f"refused {number} {layer} {place}")
+
+
+def product(radices):
+    n = 1
+    for r in radices:
+        n *= r
+    return n
+
+
+def check_plan(radices):
+    if len(radices) > 9:
+        raise Refused(21, 2, 0)
+    for i, r in enumerate(radices):
+        if not 2 <= r <= 8:
+            raise Refused(22, 2, i)
+    for i in range(len(radices)):
+        if product(radices[: i + 1]) > 512:
+            raise Refused(23, 2, i)
+
+
+def standard_plan(n):
+    if not 1 <= n <= 512:
+        raise Refused(25, 2, n)
+    radices, left = [], n
+    for r in (4, 2, 3, 5, 7):
+        while left % r == 0:
+            radices.append(r)
+            left //= r
+    if left != 1:
+        raise Refused(25, 2, n)
+    return radices
+
+
+def recursion(radices, samples):
+    if not radices:
+        return list(samples)
+    r, n = radices[0], len(samples)
+    length = n // r
+    parts = [recursion(radices[1:], samples[q::r]) for q in range(r)]
+    tones = []
+    for k in range(n):
+        total = turn(parts[0][k % length], 0)
+        for q in range(1, r):
+            total = add(total, turn(parts[q][k % length], (q * k % n) * SPAN // n))
+        tones.append(total)
+    return tones
+
+
+# --- stroke files: docs/FORMAT.md
+
+
+def encode(path, pressure=None, notes=b""):
+    body = b""
+    for i, (x, y) in enumerate(path):
+        body += struct.pack("<hh", x, y)
+        if pressure is not None:
+            body += struct.pack("<H", pressure[i])
+    return notes + body + struct.pack("<IHBB", len(body), len(path), pressure is not None, 1)
+
+
+def decode(data):
+    if not 8 <= len(data) <= 65536:
+        raise Refused(11, 1, 0)
+    distance, count, flag, version = struct.unpack("<IHBB", data[-8:])
+    if version != 1:
+        raise Refused(12, 1, len(data) - 1)
+    if flag > 1:
+        raise Refused(12, 1, len(data) - 2)
+    if not 1 <= count <= 512:
+        raise Refused(13, 1, 0)
+    size = 6 if flag else 4
+    if distance != count * size:
+        raise Refused(14, 1, 0)
+    if distance > len(data) - 8:
+        raise Refused(15, 1, 0)
+    start = len(data) - 8 - distance
+    path, pressure = [], []
+    for at in range(start, len(data) - 8, size):
+        x, y = struct.unpack("<hh", data[at : at + 4])
+        for offset, value in ((at, x), (at + 2, y)):
+            if abs(value) > 1023:
+                raise Refused(16, 1, offset)
+        path.append((x, y))
+        if flag:
+            (p,) = struct.unpack("<H", data[at + 4 : at + 6])
+            if p > 1023:
+                raise Refused(16, 1, at + 4)
+            pressure.append(p)
+    return path, pressure if flag else None
+
+
+# --- what is printed
+
+
+def tones(path, radices, buffer_length, work_length):
+    n = product(radices)
+    if SPAN % n:
+        raise Refused(24, 3, n)
+    if buffer_length != n:
+        raise Refused(31, 3, 0)
+    if work_length < n + 8:
+        raise Refused(32, 3, 0)
+    spectrum = recursion(radices, [(1024 * x, 1024 * y) for x, y in path])
+    lines = [f"tones {n} turns {n * sum(radices)}"]
+    return lines + [f"{k} {x} {y}" for k, (x, y) in enumerate(spectrum)]
+
+
+def printed_standard(data):
+    """The output of the program `tones`."""
+    try:
+        path, _ = decode(data)
+        radices = standard_plan(len(path))
+        return tones(path, radices, len(path), 520)
+    except Refused as refusal:
+        return [str(refusal)]
+
+
+def printed_plan(data, radices, work_length):
+    """The same under a plan that the caller chose, with the work buffer that it lent."""
+    try:
+        path, _ = decode(data)
+        check_plan(radices)
+        return tones(path, radices, len(path), work_length)
+    except Refused as refusal:
+        return [str(refusal)]
+
+
+# --- the stroke files of the gate
+
+
+class Numbers:
+    """A small generator of its own, so that the files never change with a library."""
+
+    def __init__(self, seed):
+        self.state = seed
+
+    def below(self, n):
+        self.state = (self.state * 6364136223846793005 + 1442695040888963407) % 2**64
+        return (self.state >> 33) % n
+
+
+def noise(n, seed):
+    numbers = Numbers(seed)
+    return [(numbers.below(2047) - 1023, numbers.below(2047) - 1023) for _ in range(n)]
+
+
+def signature(n):
+    """A pen that writes three loops from left to right."""
+    path = []
+    for t in range(n):
+        a = 2 * math.pi * 3 * t / n
+        path.append((round(-700 + 1400 * t / n + 180 * math.sin(a)), round(300 * math.cos(a))))
+    return path
+
+
+def strokes():
+    """Every stroke file by its name."""
+    four = [(4, 0), (0, 0), (3, 0), (6, 0)]
+    files = {
+        "four": encode(four),
+        "four-notes": encode(four, notes=b"pad 7, counter 3"),
+        "four-pressure": encode(four, pressure=[0, 1023, 1, 512]),
+        "eleven": encode(noise(11, 11)),
+        "three": encode(noise(3, 3)),
+        "signature": encode(signature(256), [abs(512 - 4 * t) for t in range(256)], b"signed at counter 3"),
+        "empty": b"",
+        "seven-bytes": b"\x04\0\0\0\x01\0\0",
+        "largest": encode(noise(2, 65), notes=b"\xff" * (65536 - 16)),
+        "too-large": encode(noise(2, 65), notes=b"\xff" * (65537 - 16)),
+        "version-2": encode(four)[:-1] + b"\2",
+        "version-0-flag-2": encode(four)[:-2] + b"\2\0",
+        "flag-2": encode(four)[:-2] + b"\2\1",
+        "count-0": struct.pack("<IHBB", 0, 0, 0, 1),
+        "count-513": b"\0" * 2052 + struct.pack("<IHBB", 2052, 513, 0, 1),
+        "distance-17": b"\0" * 17 + struct.pack("<IHBB", 17, 4, 0, 1),
+        "distance-high-bytes": b"\0" * 16 + struct.pack("<IHBB", 0x01000010, 4, 0, 1),
+        "flag-for-distance": encode(four)[:-2] + b"\1\1",
+        "start-before-file": encode(four)[1:],
+        "x-1024": encode(four[:2] + [(1024, 0), (0, -1024)], notes=b"n"),
+        "y-minus-1024": encode(four[:3] + [(-1023, -1024)]),
+        "pressure-1024": encode(four, pressure=[0, 1023, 1024, 0]),
+        "x-before-pressure": encode([(0, 0), (-1024, 0)], pressure=[1024, 0]),
+    }
+    for k in range(10):
+        n = 2**k
+        files[f"noise-{n}"] = encode(noise(n, n), notes=b"\0" * (k % 3))
+    files["spike-8"] = encode([(0, 0)] * 5 + [(1023, -1023)] + [(0, 0)] * 2)
+    files["corner-64"] = encode([(1023, 1023)] * 64)
+    files["corner-512"] = encode([(-1023, -1023)] * 512, pressure=[1023] * 512)
+    files["alternating-512"] = encode([(1023 * (-1) ** t, -1023 * (-1) ** t) for t in range(512)])
+    files["quarter-turns-256"] = encode([((1023, 0), (0, 1023), (-1023, 0), (0, -1023))[t % 4] for t in range(256)])
+    return files
+
+
+def cases():
+    """Which file is run under which plan with how much work: the plan '-' is empty, 'standard' is the standard one."""
+    listed = [(name, "standard", "520") for name in strokes()]
+    for plan in ("2,2", "4", "-", "2", "8", "2,3", "1", "9", "2,2,2,2,2,2,2,2,2,2", "8,8,8,2", "8,8,8,9", "2,2,2,2,2,2,2,2,2,1"):
+        listed.append(("four", plan, "520"))
+    for plan, work in (("4", "12"), ("4", "11"), ("2", "9"), ("3", "0")):
+        listed.append(("four", plan, work))
+    for plan in ("8", "2,4", "4,2", "2,2,2"):
+        listed.append(("spike-8", plan, "16"))
+        listed.append(("noise-8", plan, "16"))
+    for plan in ("8,8", "2,8,4", "2,2,2,2,2,2"):
+        listed.append(("noise-64", plan, "72"))
+    listed.append(("noise-1", "-", "9"))
+    listed.append(("noise-1", "-", "8"))
+    for plan in ("8,8,8", "2,2,2,2,2,2,2,2,2", "2,4,8,8", "8,8,4,2"):
+        listed.append(("noise-512", plan, "520"))
+    listed.append(("noise-512", "8,8,8", "519"))
+    listed.append(("alternating-512", "8,8,8", "600"))
+    return listed
+
+
+def case_lines(files):
+    lines = []
+    for name, plan, work in cases():
+        lines.append(f"{name} under {plan} with {work}")
+        if plan == "standard":
+            lines += printed_standard(files[name])
+        else:
+            radices = [] if plan == "-" else [int(r) for r in plan.split(",")]
+            lines += printed_plan(files[name], radices, int(work))
+    return lines
+
+
+def outputs():
+    """Every file that `write` writes, by its path."""
+    files = strokes()
+    text = lambda lines: ("\n".join(lines) + "\n").encode()
+    made = {
+        "samples/four.stroke": files["four"],
+        "samples/signature.stroke": files["signature"],
+        "crates/tones/stdin": files["four"],
+        "crates/tones/stdout": text(printed_standard(files["four"])),
+        "crates/cases/args": text(word for case in cases() for word in case),
+        "crates/cases/stdout": text(case_lines(files)),
+    }
+    for name, data in files.items():
+        made[f"crates/cases/data/{name}.stroke"] = data
+    return made
+
+
+def main(words):
+    here = os.path.join(os.path.dirname(os.path.abspath(__file__)), "..")
+    if len(words) == 2 and words[0] == "tones":
+        with open(words[1], "rb") as f:
+            print("\n".join(printed_standard(f.read(65537))))
+    elif words == ["write"]:
+        for path, data in outputs().items():
+            full = os.path.join(here, path)
+            os.makedirs(os.path.dirname(full), exist_ok=True)
+            with open(full, "wb") as f:
+                f.write(data)
+    elif words == ["check"]:
+        wrong = 0
+        for path, data in outputs().items():
+            try:
+                with open(os.path.join(here, path), "rb") as f:
+                    same = f.read() == data
+            except OSError:
+                same = False
+            if not same:
+                print(f"not as written: {path}")
+                wrong += 1
+        print(f"{len(outputs()) - wrong} files as written, {wrong} not")
+        sys.exit(1 if wrong else 0)
+    else:
+        sys.exit(__doc__)
+
+
+if __name__ == "__main__":
+    main(sys.argv[1:])
