@@ -20,9 +20,9 @@ within-or-past i n = grind arith
 pub entered-there : (path : List (ℤ × ℤ)) (i : ℕ) (x y : ℤ) → nth path i ≡ Some (x, y) → sampled x y ≡ getD (entered path) i origin
 entered-there path i x y is = ⊎-elim
     (λ (within : i < length path).
-      let here = nth-getD path i (pos 0, pos 0) within in
-      let at : (x, y) ≡ getD path i (pos 0, pos 0) = cc in
-      ap (λ (p : ℤ × ℤ). sampled (p .0) (p .1)) at ∙ sym (getD-map (λ p. sampled (p .0) (p .1)) path i (pos 0, pos 0) origin within))
+    let here = nth-getD path i (pos 0, pos 0) within in
+    let at : (x, y) ≡ getD path i (pos 0, pos 0) = cc in
+    ap (λ (p : ℤ × ℤ). sampled (p .0) (p .1)) at ∙ sym (getD-map (λ p. sampled (p .0) (p .1)) path i (pos 0, pos 0) origin within))
     (λ (past : length path ≤ i). let none = nth-past path i past in let z : _≡_ {A = ℕ} 0 1 = cc in absurd (omega arith))
     (within-or-past i (length path))
 

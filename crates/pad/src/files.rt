@@ -11,6 +11,7 @@ ghost use Rattle.spectrum.specs.Granted.{divided, lent};
 ghost use Rattle.spectrum.specs.Tones.{tones};
 ghost use Rattle.stroke.specs.Reading.{contents};
 ghost use Rattle.pad.specs.Files.{file-spectrum, summary, in-front, cleared};
+use crate::entering::enter;
 use fixed::Fixed;
 use fixed::FixedArithmetic;
 use plan::Plan;
@@ -18,7 +19,6 @@ use spectrum::Fault;
 use spectrum::FaultFromFile;
 use spectrum::FaultFromPlan;
 use stroke::Stroke;
-use crate::entering::enter;
 
 // How many tones a spectrum has, and how many turns made them.
 #[derive(Clone, Copy, Debug, PartialEq, Eq)]
@@ -44,11 +44,7 @@ fn fill(stroke: &Stroke<'_>, plan: &Plan, buf: &mut [Fixed], work: &mut [Fixed])
 
 // Transforms the stroke in `bytes` under the standard plan of its length N. The tones take the first N elements of
 // `tones`, which has at least as many; `work` has N + 8 or more. Every refusal comes before the first write.
-pub fn file_tones(
-    bytes: &[u8],
-    tones: &mut [Fixed],
-    work: &mut [Fixed],
-) -> Result<Summary, Fault>
+pub fn file_tones(bytes: &[u8], tones: &mut [Fixed], work: &mut [Fixed]) -> Result<Summary, Fault>
     ensures answer { λ r. ⌜ r ≡ mapped summary (λ f. f) (file-spectrum (length (now (tones .entry))) (length (now (work .entry))) (now (bytes .entry))) ⌝ }
     ensures after { λ _. ⌜ now (tones .exit) ≡ in-front (file-spectrum (length (now (tones .entry))) (length (now (work .entry))) (now (bytes .entry))) (now (tones .entry)) ⌝ }
     ensures work { λ _. ⌜ now (work .exit) ≡ cleared (file-spectrum (length (now (tones .entry))) (length (now (work .entry))) (now (bytes .entry))) (now (work .entry)) ⌝ }

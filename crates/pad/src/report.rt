@@ -2,12 +2,12 @@
 ghost use mathlib.Core.Path.{_≡_};
 ghost use Rattle.pad.specs.declared.report.Failure.the-variants.{Refused as OfRefused, Text as OfText};
 ghost use Rattle.pad.specs.Reported.{spectrum-in, Reports};
+use crate::files::file_tones;
+use crate::text::spectrum_text;
 use fixed::Fixed;
 use spectrum::Fault;
 use std::alloc::Global;
 use std::fmt;
-use crate::files::file_tones;
-use crate::text::spectrum_text;
 
 // The most samples of a stroke, and what the transform of so many works in.
 const MOST_SAMPLES: usize = 512;

@@ -28,6 +28,7 @@ use Rattle.spectrum.specs.Spectra.{defining, spectrum}
 use Rattle.spectrum.specs.SpectraLaws.{TonesOf, AllPlansAgree}
 use Rattle.spectrum.proofs.SpectraByPlace.{sample, tones-by-place, value-of-tone}
 use Rattle.spectrum.proofs.ByPlace.{at-place}
+use Rattle.spectrum.proofs.Recursion.{length-tones}
 
 -- tone k of n samples f as a sum from zero on, with no remainders taken: sample t turned by t k n-th parts of a circle
 abbrev pub tone-total : {A R : Type 0} → Meaning A R → ℕ → (ℕ → A) → ℕ → A
@@ -150,7 +151,7 @@ module _ {A R : Type 0} {m : Meaning A R} (law : ExactLaws m) where
 
   pub all-plans-agree : AllPlansAgree m
   all-plans-agree rs a z long =
-      tones-by-place m a (size rs) long (tones m rs a) (length-tones rs a long)
+      tones-by-place m a (size rs) long (tones m rs a) (length-tones m rs a long)
       (λ k h. tones-total rs a k z long h ∙ sym (defining-total a (size rs) k long z))
 
   -- a tone turned, by its sum
