@@ -1,7 +1,7 @@
 // Transforms stroke files under chosen plans with chosen work buffers, and prints each spectrum or refusal. It also
 // says where a refusal has changed a lent buffer, or a granted call has left something in the work buffer.
 //
-// The arguments come by threes: a file of data/; a plan, which is 'standard', '-' for the empty one, or radices joined
+// The arguments come by threes: a stroke file by its name; a plan, which is 'standard', '-' for the empty one, or radices joined
 // by commas; and how many elements of work are lent.
 use fixed::Fixed;
 use fixed::FixedArithmetic;
@@ -98,7 +98,7 @@ fn chosen(rt: &LibcRuntime, bytes: &[u8], plan: &str, lent: usize) -> Result<(),
 
 fn case(rt: &LibcRuntime, name: &String, plan: &String, work: &String) -> Result<(), AnyError> {
     println!(rt, "{name} under {plan} with {work}")?;
-    let path = format!(rt.alloc(), "data/{name}.stroke")?;
+    let path = format!(rt.alloc(), "{name}.stroke")?;
     let bytes = fs::read(rt, path.as_str())?;
     if plan.as_str() == "standard" {
         standard(rt, &bytes)
