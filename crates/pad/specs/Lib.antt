@@ -1,3 +1,4 @@
 pub mod Files
 pub mod Printed
 pub mod Reported
+pub mod Worked

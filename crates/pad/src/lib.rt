@@ -3,6 +3,7 @@ mod entering;
 mod files;
 mod report;
 mod text;
+mod worked;
 
 pub use files::Summary;
 pub use files::file_tones;
@@ -12,3 +13,4 @@ pub use report::FailureFromText;
 pub use report::report_on;
 pub use text::refusal_text;
 pub use text::spectrum_text;
+pub use worked::worked_cases_stand;
