@@ -5,7 +5,8 @@ It shares nothing with the Rattle code, so that the two can be held against each
 
     python3 tools/reference.py tones FILE     prints what `tones` prints for the stroke file FILE
     python3 tools/reference.py write          writes samples/, and what the gate runs and expects:
-                                              crates/tones/{stdin,stdout}, crates/cases/{args,data,stdout}
+                                              crates/tones/{stdin,stdout}, crates/cases/{args,data,stdout},
+                                              crates/exacts/{stdin,stdout}
     python3 tools/reference.py check          says whether those files are what `write` would write
 """
 import math
@@ -49,6 +50,102 @@ def turn(value, e):
 
 def add(a, b):
     return wrap(a[0] + b[0]), wrap(a[1] + b[1])
+
+
+# --- the exact arithmetics: docs/ARITHMETICS.md
+
+
+class Pressure:
+    """The whole numbers modulo a prime, turned by the powers of a root."""
+
+    name, full = "pressure", True
+    modulus = 15 * 2**27 + 1
+    span = 7680
+    root = 143112044  # docs/ARITHMETICS.md, "The roots"
+    one, zero = 1, 0
+
+    def value(self, a):
+        return a % self.modulus
+
+    def sum(self, a, b):
+        return (a + b) % self.modulus
+
+    def product(self, a, b):
+        return a * b % self.modulus
+
+    def whole(self, n):
+        return n % self.modulus
+
+    def text(self, a):
+        return str(a)
+
+
+class Path:
+    """Pairs (u, v) modulo a prime, as u + v times a root of -1, turned by the powers of a root."""
+
+    name, full = "path", True
+    modulus = 2**31 - 1
+    span = 4608
+    root = (1569797033, 1612820169)  # docs/ARITHMETICS.md, "The roots"
+    one, zero = (1, 0), (0, 0)
+
+    def value(self, a):
+        return a[0] % self.modulus, a[1] % self.modulus
+
+    def sum(self, a, b):
+        return self.value((a[0] + b[0], a[1] + b[1]))
+
+    def product(self, a, b):
+        return self.value((a[0] * b[0] - a[1] * b[1], a[0] * b[1] + a[1] * b[0]))
+
+    def whole(self, n):
+        return n % self.modulus, 0
+
+    def text(self, a):
+        return f"{a[0]},{a[1]}"
+
+
+def powers(x):
+    """The powers of the root below the span."""
+    listed = [x.one]
+    while len(listed) < x.span:
+        listed.append(x.product(listed[-1], x.root))
+    assert x.product(listed[-1], x.root) == x.one and listed.count(x.one) == 1
+    return listed
+
+
+PRESSURE, PATH = Pressure(), Path()
+POWERS = {x: powers(x) for x in (PRESSURE, PATH)}
+
+
+def defining_sums(x, samples):
+    """Tone k is the sum over t of sample t turned by (t * k mod N) * span / N."""
+    n, tones = len(samples), []
+    for k in range(n):
+        total = x.zero
+        for t, sample in enumerate(samples):
+            total = x.sum(total, x.product(sample, POWERS[x][t * k % n * x.span // n]))
+        tones.append(total)
+    return tones
+
+
+def inverse_sums(x, tones):
+    """Sample t is one of N parts of the sum over k of tone k turned by ((N - t) * k mod N) * span / N."""
+    n = len(tones)
+    part = x.whole(pow(n, -1, x.modulus))
+    summed = defining_sums(x, tones)
+    return [x.product(part, summed[(n - t) % n]) for t in range(n)]
+
+
+def convolution(x, a, b):
+    """Place t is the sum over j of a at j times b at t - j, round the circle."""
+    n, out = len(a), []
+    for t in range(n):
+        total = x.zero
+        for j in range(n):
+            total = x.sum(total, x.product(a[j], b[(t - j) % n]))
+        out.append(total)
+    return out
 
 
 # --- plans and the recursion: docs/TRANSFORM.md
@@ -284,10 +381,146 @@ def case_lines(files):
     return lines
 
 
+# --- the calls over every arithmetic, case by case
+
+
+class Fixed:
+    """The fixed arithmetic, which has no product and no part, so neither inverse nor convolution."""
+
+    name, full = "fixed", False
+    span = SPAN
+
+    def text(self, a):
+        return f"{a[0]},{a[1]}"
+
+
+FIXED = Fixed()
+
+
+def granted(x, call, radices, lists, work_length):
+    """Refuses what the call refuses, the lowest number first."""
+    check_plan(radices)
+    n = product(radices)
+    if x.span % n:
+        raise Refused(24, 3, n)
+    if not x.full and call != "transform":
+        raise Refused(26, 3, 0)
+    if any(len(lent) != n for lent in lists):
+        raise Refused(31, 3, 0)
+    if work_length < n + 8:
+        raise Refused(32, 3, 0)
+
+
+def answer(x, call, radices, lists, work_length):
+    """The lines that `exacts` prints of a case after its head."""
+    try:
+        granted(x, call, radices, lists, work_length)
+    except Refused as refusal:
+        return [str(refusal)]
+    lines = []
+    if call == "transform":
+        lines = [f"turns {product(radices) * sum(radices)}"]
+        out = defining_sums(x, lists[0]) if x.full else recursion(radices, lists[0])
+    elif call == "inverse":
+        out = inverse_sums(x, lists[0])
+    else:
+        out = convolution(x, lists[0], lists[1])
+    return lines + ["".join(" " + x.text(a) for a in out[i : i + 8]) for i in range(0, len(out), 8)]
+
+
+def mixed(x, n, seed):
+    """Samples of small, large and unreduced words."""
+    if not x.full:
+        return [(1024 * a, 1024 * b) for a, b in noise(n, seed)]
+    numbers, m = Numbers(seed), x.modulus
+
+    def word():
+        few, any_below = numbers.below(1024), numbers.below(m)
+        return (few, m - few, m + few, 2**32 - 1 - few, any_below)[numbers.below(5)]
+
+    return [word() if x is PRESSURE else (word(), word()) for _ in range(n)]
+
+
+def edges(x):
+    """Twelve samples whose words stand at the edges of the modulus and of 32 bits."""
+    m = x.modulus
+    words = [m + 5, 2**32 - 1, m, m - 1, m + 1, 0, 1, 2 * m, 3, 2**31, 2**31 - 1, 7]
+    return words if x is PRESSURE else list(zip(words, words[5:] + words[:5]))
+
+
+def tones_of(x, samples):
+    """The defining sums, which the inverse must take back to the samples reduced."""
+    tones = defining_sums(x, samples)
+    assert inverse_sums(x, tones) == [x.value(a) for a in samples]
+    return tones
+
+
+def plan_cases(x, n, plans):
+    """Several plans of one length, which agree."""
+    samples, other = mixed(x, n, n), mixed(x, n, n + 1)
+    for radices in plans:
+        yield x, "transform", radices, [samples], n + 8
+        yield x, "inverse", radices, [tones_of(x, samples)], n + 8
+        yield x, "convolve", radices, [samples, other, samples], n + 8
+
+
+def edge_cases(x):
+    """Words at the edges, tones that are not reduced, and work that is longer than needed."""
+    samples, other = edges(x), mixed(x, 12, 7)
+    yield x, "transform", [3, 4], [samples], 20
+    yield x, "inverse", [3, 4], [tones_of(x, samples)], 20
+    yield x, "inverse", [4, 3], [samples], 21
+    yield x, "convolve", [2, 6], [samples, other, samples], 20
+    yield x, "convolve", [2, 6], [other, samples, other], 50
+    yield x, "transform", [2, 6], [other], 50
+
+
+def refused_cases(x):
+    """Every refusal of the three calls, and the lowest number where several conditions hold."""
+    four = mixed(x, 4, 4)
+    for call, count in (("transform", 1), ("inverse", 1), ("convolve", 3)):
+        for radices in ([2] * 10, [2] * 9 + [9], [3, 1, 9, 2], [2, 9], [8, 8, 8, 2], [8, 8, 8, 9], [7], [8, 8, 8]):
+            yield x, call, radices, [four] * count, 3
+        for place in range(count):
+            for wrong in (four[:3], four + four[:1], []):
+                yield x, call, [2, 2], [wrong if i == place else four for i in range(count)], 12
+        yield x, call, [4], [four[:3]] * count, 11
+        yield x, call, [4], [four] * count, 11
+        yield x, call, [4], [four] * count, 0
+        yield x, call, [], [four[:1]] * count, 8
+
+
+def exact_cases():
+    """The arithmetic, the call, the radices, the lent lists and how much work is lent."""
+    for x in (PRESSURE, PATH):
+        yield from edge_cases(x)
+        yield from plan_cases(x, 1, ([],))
+        yield from plan_cases(x, 12, ([2, 2, 3], [3, 4], [4, 3], [2, 6]))
+        yield x, "transform", [2] * 9, [mixed(x, 512, 512)], 520
+        yield x, "transform", [8, 6, 5, 2], [mixed(x, 480, 480)], 488
+        yield x, "transform", [4, 8, 3, 3], [mixed(x, 288, 288)], 296
+    yield from plan_cases(PRESSURE, 60, ([5, 4, 3], [2, 5, 6], [3, 2, 2, 5]))
+    yield from plan_cases(PATH, 36, ([6, 6], [4, 3, 3], [2, 3, 2, 3]))
+    yield FIXED, "transform", [2, 2], [mixed(FIXED, 4, 4)], 12
+    for x in (PRESSURE, PATH, FIXED):
+        yield from refused_cases(x)
+
+
+def exact_lines():
+    """What stands on the standard input of `exacts`, and what it prints."""
+    given, printed = [], []
+    for x, call, radices, lists, work_length in exact_cases():
+        head = f"{x.name} {call} {','.join(map(str, radices)) or '-'} {work_length}"
+        given.append(head + ": " + " | ".join(" ".join(x.text(a) for a in lent) for lent in lists))
+        printed += [head] + answer(x, call, radices, lists, work_length)
+    return given, printed
+
+
 def outputs():
     """Every file that `write` writes, by its path."""
     files = strokes()
     text = lambda lines: ("\n".join(lines) + "\n").encode()
+    given, printed = exact_lines()
     made = {
         "samples/four.stroke": files["four"],
         "samples/signature.stroke": files["signature"],
@@ -295,6 +528,8 @@ def outputs():
         "crates/tones/stdout": text(printed_standard(files["four"])),
         "crates/cases/args": text(word for case in cases() for word in case),
         "crates/cases/stdout": text(case_lines(files)),
+        "crates/exacts/stdin": text(given),
+        "crates/exacts/stdout": text(printed),
     }
     for name, data in files.items():
         made[f"crates/cases/data/{name}.stroke"] = data
