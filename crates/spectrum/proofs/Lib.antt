@@ -7,6 +7,8 @@ pub mod Recursion
 pub mod Schedule
 pub mod Dealing
 pub mod Granting
+pub mod Unpacking
+pub mod Underway
 pub mod Mirroring
 pub mod Waiting
 pub mod ByPlace

@@ -3,6 +3,8 @@ pub mod Stages
 pub mod Shapes
 pub mod Faults
 pub mod Granted
+pub mod Packed
+pub mod Runs
 pub mod Spectra
 pub mod SpectraLaws
 pub mod Moves

@@ -1,0 +1,67 @@
+-- What a run knows of its plan, and what its next stage makes of that.
+use mathlib.Core.Path.{_≡_, ap, sym, _∙_}
+use Prim.Native.Nat.{ℕ, _+_, _-_, _*_, _%_, _^_, _<_, _≤_}
+use native.Mathlib.Nat.{mul-comm}
+use native.Mathlib.Omega.{arith}
+use lib.ListN.{length, drop}
+use Rattle.std.proofs.shelf.Ways.{tells}
+use Rattle.std.specs.declared.result.Result.the-variants.{Ok}
+use Rattle.plan.specs.Radices.{size, radix-sum, Plan}
+use Rattle.plan.proofs.Sizes.{plan-size-positive}
+use Rattle.spectrum.specs.Packed.{radix-before}
+use Rattle.spectrum.specs.Granted.{scratch}
+use Rattle.spectrum.specs.Runs.{plan-of, next-radix, ready}
+use Rattle.spectrum.specs.declared.run.Run.{Run}
+use Rattle.spectrum.proofs.Schedule.{block-size, block-small, turned-more, turned-fits}
+use Rattle.spectrum.proofs.Unpacking.{length-unpacked, unpacked-at}
+
+pub stages-of : (run : Run) → length (plan-of run) ≡ run .count
+stages-of run = length-unpacked (run .count) (run .radices)
+
+pub run-plan : (run : Run) → Plan (plan-of run)
+run-plan run =
+    record { few = omega (arith, stages-of run, run .few); each = run .each; small = omega (arith, run .whole, run .small) }
+
+pub run-length-positive : (run : Run) → 0 < run .len
+run-length-positive run = omega (arith, run .whole, plan-size-positive (plan-of run) (run-plan run))
+
+pub left-within : (run : Run) → run .left ≤ length (plan-of run)
+left-within run = omega (arith, stages-of run, run .stages)
+
+module _ (run : Run) (low : 0 < run .left) where
+  pub next-radix-unpacked : radix-before (run .count - run .left) (run .radices) ≡ next-radix run
+  next-radix-unpacked =
+      let h = run .stages in
+      let after : run .count - (run .left - 1 + 1) ≡ run .count - run .left = omega arith in
+      sym (unpacked-at (run .count) (run .radices) (run .left - 1) (omega arith) ∙ ap (λ k. radix-before k (run .radices)) after)
+
+  pub parts-more : run .part * next-radix run ≡ size (drop (run .left - 1) (plan-of run))
+  parts-more =
+      mul-comm (run .part) (next-radix run) ∙ block-size (run-plan run) (run .left) (run .part) low (left-within run) (run .parts)
+
+  pub part-fits : run .part * next-radix run < 2 ^ 64
+  part-fits =
+      let r = next-radix run in
+      omega (arith, mul-comm (run .part) r, block-small (run-plan run) (run .left) (run .part) low (left-within run) (run .parts))
+
+  pub turns-more : run .turns + run .len * next-radix run ≡ run .len * radix-sum (drop (run .left - 1) (plan-of run))
+  turns-more = turned-more (plan-of run) (run .left) (run .len) (run .turns) low (left-within run) (run .turned)
+
+  pub turns-fit : run .turns + run .len * next-radix run < 2 ^ 64
+  turns-fit = omega (arith, turns-more, turned-fits (run-plan run) (run .left - 1) (run .len) (run .whole))
+
+-- what is known where a stage is granted
+pub record Ready (span : ℕ) (run : Run) (buf work : ℕ) : Type 0 where
+  pub divides : span % run .len ≡ 0
+  pub whole : buf ≡ run .len
+  pub room : run .len + scratch ≤ work
+  pub some-left : 0 < run .left
+
+pub ready-granted : (span : ℕ) (run : Run) (buf work : ℕ) → Ok tt ≡ ready span run buf work → Ready span run buf work
+ready-granted span run buf work is =
+    record {
+      divides = grind (arith, tells);
+      whole = grind (arith, tells);
+      room = grind (arith, tells);
+      some-left = grind (arith, tells);
+    }
