@@ -1,16 +1,19 @@
 -- What a run knows of its plan, and what its next stage makes of that.
 use mathlib.Core.Path.{_≡_, ap, sym, _∙_}
+use mathlib.Core.List.{List}
 use Prim.Native.Nat.{ℕ, _+_, _-_, _*_, _%_, _^_, _<_, _≤_}
 use native.Mathlib.Nat.{mul-comm}
 use native.Mathlib.Omega.{arith}
 use lib.ListN.{length, drop}
 use Rattle.std.proofs.shelf.Ways.{tells}
-use Rattle.std.specs.declared.result.Result.the-variants.{Ok}
+use Rattle.std.specs.Results.{andOther}
+use Rattle.std.specs.declared.result.Result.the-variants.{Ok, Err}
 use Rattle.plan.specs.Radices.{size, radix-sum, Plan}
 use Rattle.plan.proofs.Sizes.{plan-size-positive}
 use Rattle.spectrum.specs.Packed.{radix-before}
-use Rattle.spectrum.specs.Granted.{scratch}
-use Rattle.spectrum.specs.Runs.{plan-of, next-radix, ready}
+use Rattle.spectrum.specs.Granted.{scratch, plans, divided, lent}
+use Rattle.spectrum.specs.Runs.{plan-of, next-radix, Seen, begun, ready, onward, stepped, finished}
+use Rattle.spectrum.specs.declared.fault.Fault.{Fault}
 use Rattle.spectrum.specs.declared.run.Run.{Run}
 use Rattle.spectrum.proofs.Schedule.{block-size, block-small, turned-more, turned-fits}
 use Rattle.spectrum.proofs.Unpacking.{length-unpacked, unpacked-at}
@@ -57,11 +60,55 @@ pub record Ready (span : ℕ) (run : Run) (buf work : ℕ) : Type 0 where
   pub room : run .len + scratch ≤ work
   pub some-left : 0 < run .left
 
-pub ready-granted : (span : ℕ) (run : Run) (buf work : ℕ) → Ok tt ≡ ready span run buf work → Ready span run buf work
-ready-granted span run buf work is =
-    record {
-      divides = grind (arith, tells);
-      whole = grind (arith, tells);
-      room = grind (arith, tells);
-      some-left = grind (arith, tells);
-    }
+module _ (span : ℕ) (run : Run) (buf work : ℕ) where
+  pub ready-granted : Ok tt ≡ ready span run buf work → Ready span run buf work
+  ready-granted is =
+      record {
+        divides = grind (arith, tells);
+        whole = grind (arith, tells);
+        room = grind (arith, tells);
+        some-left = grind (arith, tells);
+      }
+
+  ready-is : Ready span run buf work → ready span run buf work ≡ Ok tt
+  ready-is h =
+      let divides = h .divides in
+      let whole = h .whole in
+      let room = h .room in
+      let some-left = h .some-left in
+      grind (arith, tells)
+
+  pub stepped-onward : (next : Seen) → Ready span run buf work → Ok next ≡ stepped span run buf work → next ≡ onward run
+  stepped-onward next h is = let yes = ready-is h in cc
+
+  pub not-refused : (e : Run × Fault) → Ready span run buf work → Err e ≡ stepped span run buf work → ⊥
+  not-refused e h is =
+      let yes = ready-is h in
+      let z : _≡_ {A = ℕ} 0 1 = cc in
+      omega arith
+
+-- what is known where dealing is granted
+pub record Begun (span : ℕ) (rs : List ℕ) (buf work : ℕ) : Type 0 where
+  pub divides : span % size rs ≡ 0
+  pub whole : buf ≡ size rs
+  pub room : size rs + scratch ≤ work
+
+-- buffers of the same lengths are granted too
+pub begun-kept : {span : ℕ} {rs : List ℕ} {buf work : ℕ} (buf' work' : ℕ) → Begun span rs buf work → buf' ≡ buf → work' ≡ work → Begun span rs buf' work'
+begun-kept buf' work' granted same-buf same-work =
+    record { divides = granted .divides; whole = same-buf ∙ granted .whole; room = omega (arith, granted .room) }
+
+module _ (span : ℕ) (rs : List ℕ) (buf work : ℕ) (run answer : Seen) (is : Ok run ≡ begun span rs buf work answer) where
+  pub begun-granted : Begun span rs buf work
+  begun-granted =
+      record { divides = grind (arith, tells); whole = grind (arith, tells); room = grind (arith, tells) }
+
+  pub begun-as : run ≡ answer
+  begun-as = grind (arith, tells)
+
+  -- the same call is granted with any other answer
+  pub begun-too : {X : Type 0} (other : X) → Ok other ≡ andOther (plans rs) (andOther (divided span (size rs)) (andOther (lent (size rs) buf work) (Ok other)))
+  begun-too other = grind (arith, tells)
+
+pub finished-turns : (run : Run) (turns : ℕ) → Ok turns ≡ finished run → turns ≡ run .turns
+finished-turns run turns is = grind (arith, tells)

@@ -5,6 +5,7 @@ pub mod Faults
 pub mod Granted
 pub mod Packed
 pub mod Runs
+pub mod ByBlocks
 pub mod Spectra
 pub mod SpectraLaws
 pub mod Moves

@@ -1,5 +1,6 @@
 // Spectra over any arithmetic: deal the samples, then one stage for each radix, where they stand.
 mod convolving;
+mod driving;
 mod engine;
 mod fault;
 mod inverses;
@@ -10,6 +11,8 @@ mod theorems;
 mod transforms;
 
 pub use convolving::convolve;
+pub use driving::poll;
+pub use driving::poll_through;
 pub use fault::Fault;
 pub use fault::FaultFromFile;
 pub use fault::FaultFromPlan;
