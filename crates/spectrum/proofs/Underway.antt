@@ -89,26 +89,42 @@ module _ (span : ℕ) (run : Run) (buf work : ℕ) where
 
 -- what is known where dealing is granted
 pub record Begun (span : ℕ) (rs : List ℕ) (buf work : ℕ) : Type 0 where
+  pub plan : plans rs ≡ Ok rs
   pub divides : span % size rs ≡ 0
   pub whole : buf ≡ size rs
   pub room : size rs + scratch ≤ work
 
+module _ (span : ℕ) (rs : List ℕ) (buf work : ℕ) where
+  pub begun-granted : (run answer : Seen) → Ok run ≡ begun span rs buf work answer → Begun span rs buf work
+  begun-granted run answer is =
+      record {
+        plan = grind (arith, tells);
+        divides = grind (arith, tells);
+        whole = grind (arith, tells);
+        room = grind (arith, tells);
+      }
+
+  pub begun-as : (run answer : Seen) → Ok run ≡ begun span rs buf work answer → run ≡ answer
+  begun-as run answer is = grind (arith, tells)
+
+  -- whatever is asked for with such buffers is answered
+  pub begun-answers : {X : Type 0} (answer : X) → Begun span rs buf work → Ok answer ≡ andOther (plans rs) (andOther (divided span (size rs)) (andOther (lent (size rs) buf work) (Ok answer)))
+  begun-answers answer granted =
+      let plan = granted .plan in
+      let divides = granted .divides in
+      let whole = granted .whole in
+      let room = granted .room in
+      grind (arith, tells)
+
 -- buffers of the same lengths are granted too
 pub begun-kept : {span : ℕ} {rs : List ℕ} {buf work : ℕ} (buf' work' : ℕ) → Begun span rs buf work → buf' ≡ buf → work' ≡ work → Begun span rs buf' work'
 begun-kept buf' work' granted same-buf same-work =
-    record { divides = granted .divides; whole = same-buf ∙ granted .whole; room = omega (arith, granted .room) }
-
-module _ (span : ℕ) (rs : List ℕ) (buf work : ℕ) (run answer : Seen) (is : Ok run ≡ begun span rs buf work answer) where
-  pub begun-granted : Begun span rs buf work
-  begun-granted =
-      record { divides = grind (arith, tells); whole = grind (arith, tells); room = grind (arith, tells) }
-
-  pub begun-as : run ≡ answer
-  begun-as = grind (arith, tells)
-
-  -- the same call is granted with any other answer
-  pub begun-too : {X : Type 0} (other : X) → Ok other ≡ andOther (plans rs) (andOther (divided span (size rs)) (andOther (lent (size rs) buf work) (Ok other)))
-  begun-too other = grind (arith, tells)
+    record {
+      plan = granted .plan;
+      divides = granted .divides;
+      whole = same-buf ∙ granted .whole;
+      room = omega (arith, granted .room);
+    }
 
 pub finished-turns : (run : Run) (turns : ℕ) → Ok turns ≡ finished run → turns ≡ run .turns
 finished-turns run turns is = grind (arith, tells)
