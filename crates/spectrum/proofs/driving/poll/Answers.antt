@@ -15,8 +15,7 @@ loop-i-holds g c =
     let run = c .in-Continue-run .run′ in
     let dealing = c .in-Continue-run .ensures tt .answer in
     let granted = begun-granted (m .span) rs (length (c .args .buf .now)) (length (c .args .work .now)) (seen run) (fresh rs) dealing in
-    let is = begun-as (m .span) rs (length (c .args .buf .now)) (length (c .args .work .now)) (seen run) (fresh rs) dealing in
-    (
+    let is = begun-as (m .span) rs (length (c .args .buf .now)) (length (c .args .work .now)) (seen run) (fresh rs) dealing in (
       polled-none m rs run _ is,
       begun-kept _ _ granted (c .deal .kept .buf) (c .deal .kept .work),
       c .min-count .ensures ∙ ap (min (c .args .polls)) (c .left .ensures .answer ∙ ap (λ s. s .left) is),
@@ -35,8 +34,7 @@ loop-i-again g c =
     let inv = c .loop-i .inv in
     let next = c .in-Ok .next in
     let ready = polled-ready m (inv .0) _ _ _ (inv .1) (omega (arith, inv .2)) in
-    let on = stepped-onward _ _ _ _ (seen next) ready (c .in-Ok .ensures tt .answer) in
-    (
+    let on = stepped-onward _ _ _ _ (seen next) ready (c .in-Ok .ensures tt .answer) in (
       polled-more m (inv .0) next _ (omega (arith, inv .2)) on (c .in-Ok .ensures tt .after),
       begun-kept _ _ (inv .1) (c .stage .kept .buf) (c .stage .kept .work),
       inv .2,
