@@ -7,6 +7,10 @@ pub mod Recursion
 pub mod Schedule
 pub mod Dealing
 pub mod Granting
+pub mod Blockwise
+pub mod Unpacking
+pub mod Underway
+pub mod Polled
 pub mod Mirroring
 pub mod Waiting
 pub mod ByPlace

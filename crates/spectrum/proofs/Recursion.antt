@@ -97,14 +97,14 @@ module _ {A R : Type 0} (m : Meaning A R) where
   unfolding stages
   stages-more r rs xs = refl
 
-  length-stages : (rs : List ℕ) → 0 < size rs → (c : ℕ) (xs : List A) → length xs ≡ c * size rs → length (stages m rs xs) ≡ length xs
+  pub length-stages : (rs : List ℕ) → 0 < size rs → (c : ℕ) (xs : List A) → length xs ≡ c * size rs → length (stages m rs xs) ≡ length xs
   unfolding stages
   length-stages [] pos c xs long = refl
   length-stages (r ∷ rs) pos c xs long =
       let below = length-stages rs (right-positive r (size rs) pos) (c * r) xs (long ∙ sym (mul-assoc c r (size rs))) in
       length-staged r (size rs) pos c (stages m rs xs) (below ∙ long) ∙ below
 
-  stages-append : (rs : List ℕ) → 0 < size rs → (c : ℕ) (xs ys : List A) → length xs ≡ c * size rs → stages m rs (xs ++ ys) ≡ stages m rs xs ++ stages m rs ys
+  pub stages-append : (rs : List ℕ) → 0 < size rs → (c : ℕ) (xs ys : List A) → length xs ≡ c * size rs → stages m rs (xs ++ ys) ≡ stages m rs xs ++ stages m rs ys
   unfolding stages
   stages-append [] pos c xs ys long = refl
   stages-append (r ∷ rs) pos c xs ys long =

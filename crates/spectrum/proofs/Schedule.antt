@@ -15,14 +15,14 @@ use Rattle.spectrum.specs.Shapes.{shaped, Sound}
 use Rattle.spectrum.proofs.Recursion.{stages-end, stages-more}
 
 -- a function of what is left of a list, one step back
-at-drop-back : {X Y : Type 0} (F : List X → Y) (xs : List X) (k : ℕ) (d : X) → 0 < k → k ≤ length xs → F (getD xs (k - 1) d ∷ drop k xs) ≡ F (drop (k - 1) xs)
+pub at-drop-back : {X Y : Type 0} (F : List X → Y) (xs : List X) (k : ℕ) (d : X) → 0 < k → k ≤ length xs → F (getD xs (k - 1) d ∷ drop k xs) ≡ F (drop (k - 1) xs)
 at-drop-back F xs k d low h =
     let back : k - 1 + 1 ≡ k = omega arith in
     sym (at-drop-more F xs (k - 1) d (omega arith) ∙ ap (λ i. F (getD xs (k - 1) d ∷ drop i xs)) back)
 
 -- the stage of the radix before k, where those from k on have the product len
 module _ {rs : List ℕ} (p : Plan rs) (k len : ℕ) (low : 0 < k) (h : k ≤ length rs) (parts : len ≡ size (drop k rs)) where
-  block-size : getD rs (k - 1) 0 * len ≡ size (drop (k - 1) rs)
+  pub block-size : getD rs (k - 1) 0 * len ≡ size (drop (k - 1) rs)
   block-size = ap (λ x. getD rs (k - 1) 0 * x) parts ∙ at-drop-back size rs k 0 low h
 
   pub block-divides : size rs % (getD rs (k - 1) 0 * len) ≡ 0
@@ -45,6 +45,19 @@ module _ {rs : List ℕ} (p : Plan rs) (k len : ℕ) (low : 0 < k) (h : k ≤ le
         unit = refl;
       }
 
+-- the turns of n elements under the radices from k on, and one radix more
+pub turned-more : (rs : List ℕ) (k n made : ℕ) → 0 < k → k ≤ length rs → made ≡ n * radix-sum (drop k rs) → made + n * getD rs (k - 1) 0 ≡ n * radix-sum (drop (k - 1) rs)
+turned-more rs k n made low h turned =
+    let r = getD rs (k - 1) 0 in
+    let all : n * (r + radix-sum (drop k rs)) ≡ n * radix-sum (drop (k - 1) rs) = ap (λ x. n * x) (at-drop-back radix-sum rs k 0 low h) in
+    omega (arith, turned, mul-add n r (radix-sum (drop k rs)))
+
+pub turned-fits : {rs : List ℕ} → Plan rs → (k n : ℕ) → n ≡ size rs → n * radix-sum (drop k rs) < 2 ^ 64
+turned-fits {rs} p k n whole =
+    let less : n * radix-sum (drop k rs) ≤ n * radix-sum rs = mul-le-mul-left n (radix-sum-drop-le rs k) in
+    let all : n * radix-sum rs ≡ turns rs = ap (λ x. x * radix-sum rs) whole in
+    omega (arith, turns-le rs p)
+
 -- the stages of the radices from k on are done
 pub record From {A R : Type 0} (m : Meaning A R) (rs : List ℕ) (k len made : ℕ) (before after : List A) : Type 0 where
   pub parts : len ≡ size (drop k rs)
@@ -66,17 +79,11 @@ module _ {A R : Type 0} (m : Meaning A R) where
     turns-more : made + t ≡ length before * radix-sum (drop (k - 1) rs)
     turns-more =
         let n = length before in
-        let r = getD rs (k - 1) 0 in
-        let here : t ≡ n * r = turned ∙ ap (λ x. x * r) kept in
-        let all : n * (r + radix-sum (drop k rs)) ≡ n * radix-sum (drop (k - 1) rs) = ap (λ x. n * x) (at-drop-back radix-sum rs k 0 low h) in
-        omega (arith, done .turned, mul-add n r (radix-sum (drop k rs)))
+        let here : t ≡ n * getD rs (k - 1) 0 = turned ∙ ap (λ x. x * getD rs (k - 1) 0) kept in
+        ap (λ x. made + x) here ∙ turned-more rs k n made low h (done .turned)
 
     pub turns-fit : length before ≡ size rs → made + t < 2 ^ 64
-    turns-fit whole =
-        let n = length before in
-        let less : n * radix-sum (drop (k - 1) rs) ≤ n * radix-sum rs = mul-le-mul-left n (radix-sum-drop-le rs (k - 1)) in
-        let all : n * radix-sum rs ≡ turns rs = ap (λ x. x * radix-sum rs) whole in
-        omega (arith, turns-more, turns-le rs p)
+    turns-fit whole = omega (arith, turns-more, turned-fits p (k - 1) (length before) whole)
 
     pub from-more : (next : List A) → next ≡ staged m (getD rs (k - 1) 0) len after → From m rs (k - 1) (len * getD rs (k - 1) 0) (made + t) before next
     from-more next is =

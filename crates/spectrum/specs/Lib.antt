@@ -3,6 +3,9 @@ pub mod Stages
 pub mod Shapes
 pub mod Faults
 pub mod Granted
+pub mod Packed
+pub mod Runs
+pub mod ByBlocks
 pub mod Spectra
 pub mod SpectraLaws
 pub mod Moves

@@ -146,7 +146,12 @@ fn block<X: Arithmetic>(buf: &mut [X], shape: Shape, scratch: &mut [X]) -> usize
 }
 
 // The stage of one radix, where the radices after it have the product `len`: every block. Answers the turns made.
-fn stage<X: Arithmetic>(buf: &mut [X], radix: usize, len: usize, scratch: &mut [X]) -> usize
+pub(crate) fn stage<X: Arithmetic>(
+    buf: &mut [X],
+    radix: usize,
+    len: usize,
+    scratch: &mut [X],
+) -> usize
     requires shape { ⌜ Sound (X·Arithmetic .meaning .span) (shaped (X·Arithmetic .meaning .span) radix len) ⌝ }
     requires whole { ⌜ length (now buf) % (radix * len) ≡ 0 ⌝ }
     requires fits { ⌜ length (now buf) < 2 ^ 32 ⌝ }

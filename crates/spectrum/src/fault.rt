@@ -17,9 +17,13 @@ pub enum Fault {
     Length,
     // The work buffer is too short.
     Work,
+    // A run has no stage left to take.
+    NoStage,
+    // A run has stages left, where it was to be finished.
+    StagesLeft,
 }
 
-// Who can mend a fault: whoever wrote the file, chose the length, or lent the memory.
+// Who can mend a fault: whoever wrote the file, chose the length, or lent the memory and steps a run.
 #[derive(Clone, Copy)]
 pub enum Layer {
     File,
@@ -54,6 +58,8 @@ impl Fault {
             Fault::Unfit => 26,
             Fault::Length => 31,
             Fault::Work => 32,
+            Fault::NoStage => 51,
+            Fault::StagesLeft => 52,
         }
     }
 
@@ -63,7 +69,12 @@ impl Fault {
         match self {
             Fault::File(_) => Layer::File,
             Fault::Plan(_) => Layer::Length,
-            Fault::Span(_) | Fault::Unfit | Fault::Length | Fault::Work => Layer::Memory,
+            Fault::Span(_)
+            | Fault::Unfit
+            | Fault::Length
+            | Fault::Work
+            | Fault::NoStage
+            | Fault::StagesLeft => Layer::Memory,
         }
     }
 
@@ -74,7 +85,7 @@ impl Fault {
             Fault::File(f) => f.place(),
             Fault::Plan(f) => f.place(),
             Fault::Span(n) => n,
-            Fault::Unfit | Fault::Length | Fault::Work => 0,
+            Fault::Unfit | Fault::Length | Fault::Work | Fault::NoStage | Fault::StagesLeft => 0,
         }
     }
 }
