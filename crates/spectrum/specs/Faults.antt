@@ -3,7 +3,7 @@ use Prim.Native.Nat.{ℕ}
 use Rattle.stroke.specs.Faults.{numberOf, placeOf}
 use Rattle.plan.specs.Faults.{fault-number, fault-place}
 use Rattle.spectrum.specs.declared.fault.Fault.{Fault}
-use Rattle.spectrum.specs.declared.fault.Fault.the-variants.{File, Plan, Span, Unfit, Length, Work, NoStage, StagesLeft}
+use Rattle.spectrum.specs.declared.fault.Fault.the-variants.{File, Plan, Span, Unfit, Length, Work, Place, NoStage, StagesLeft}
 use Rattle.spectrum.specs.declared.fault.Layer.{Layer}
 use Rattle.spectrum.specs.declared.fault.Layer.the-variants.{File as OfFile, Length as OfLength, Memory as OfMemory}
 
@@ -15,10 +15,11 @@ number-of (Span n) = 24
 number-of Unfit = 26
 number-of Length = 31
 number-of Work = 32
+number-of (Place k) = 41
 number-of NoStage = 51
 number-of StagesLeft = 52
 
--- whoever wrote the file, chose the length, or lent the memory to this arithmetic and steps the run
+-- whoever wrote the file, chose the length, or lent the memory to this arithmetic and calls on it
 abbrev pub layer-of : Fault → Layer
 layer-of (File f) = OfFile
 layer-of (Plan f) = OfLength
@@ -26,10 +27,11 @@ layer-of (Span n) = OfMemory
 layer-of Unfit = OfMemory
 layer-of Length = OfMemory
 layer-of Work = OfMemory
+layer-of (Place k) = OfMemory
 layer-of NoStage = OfMemory
 layer-of StagesLeft = OfMemory
 
--- what a file or a plan was refused at keeps its place; else the length, or 0
+-- what a file or a plan was refused at keeps its place; else the length or the number that was asked for, or 0
 abbrev pub place-of : Fault → ℕ
 place-of (File f) = placeOf f
 place-of (Plan f) = fault-place f
@@ -37,6 +39,7 @@ place-of (Span n) = n
 place-of Unfit = 0
 place-of Length = 0
 place-of Work = 0
+place-of (Place k) = k
 place-of NoStage = 0
 place-of StagesLeft = 0
 

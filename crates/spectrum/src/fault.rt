@@ -17,13 +17,15 @@ pub enum Fault {
     Length,
     // The work buffer is too short.
     Work,
+    // A sheet has no sample or tone of this number.
+    Place(usize),
     // A run has no stage left to take.
     NoStage,
     // A run has stages left, where it was to be finished.
     StagesLeft,
 }
 
-// Who can mend a fault: whoever wrote the file, chose the length, or lent the memory and steps a run.
+// Who can mend a fault: whoever wrote the file, chose the length, or lent the memory and calls on it.
 #[derive(Clone, Copy)]
 pub enum Layer {
     File,
@@ -58,6 +60,7 @@ impl Fault {
             Fault::Unfit => 26,
             Fault::Length => 31,
             Fault::Work => 32,
+            Fault::Place(_) => 41,
             Fault::NoStage => 51,
             Fault::StagesLeft => 52,
         }
@@ -73,6 +76,7 @@ impl Fault {
             | Fault::Unfit
             | Fault::Length
             | Fault::Work
+            | Fault::Place(_)
             | Fault::NoStage
             | Fault::StagesLeft => Layer::Memory,
         }
@@ -84,7 +88,7 @@ impl Fault {
         match self {
             Fault::File(f) => f.place(),
             Fault::Plan(f) => f.place(),
-            Fault::Span(n) => n,
+            Fault::Span(n) | Fault::Place(n) => n,
             Fault::Unfit | Fault::Length | Fault::Work | Fault::NoStage | Fault::StagesLeft => 0,
         }
     }

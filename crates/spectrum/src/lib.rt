@@ -21,4 +21,5 @@ pub use inverses::inverse;
 pub use run::Run;
 pub use tested::granted;
 pub use theorems::spectra_stand;
+pub use transforms::SCRATCH;
 pub use transforms::transform;

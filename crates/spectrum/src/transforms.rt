@@ -18,7 +18,7 @@ use arithmetic::Arithmetic;
 use plan::Plan;
 
 // What a stage takes of the work beside the length: one element for each row of the largest radix.
-const SCRATCH: usize = 8;
+pub const SCRATCH: usize = 8;
 
 // Refuses a length that does not divide the span.
 pub(crate) fn divides<X: Arithmetic>(n: usize) -> Result<(), Fault>

@@ -1,0 +1,11 @@
+pub mod Written
+pub mod Walks
+pub mod Granting
+pub mod Halves
+pub mod NextTones
+pub mod CellsAfter
+pub mod Filling
+pub mod MovedSheets
+pub mod SheetLaws
+pub mod Playing
+pub mod Replaying
