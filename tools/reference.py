@@ -6,7 +6,7 @@ It shares nothing with the Rattle code, so that the two can be held against each
     python3 tools/reference.py tones FILE     prints what `tones` prints for the stroke file FILE
     python3 tools/reference.py write          writes samples/, and what the gate runs and expects:
                                               crates/tones/{stdin,stdout}, crates/cases/{args,data,stdout},
-                                              crates/exacts/{stdin,stdout}
+                                              crates/exacts/{stdin,stdout}, crates/play/{stdin,stdout}
     python3 tools/reference.py check          says whether those files are what `write` would write
 """
 import math
@@ -516,6 +516,45 @@ def exact_lines():
     return given, printed
 
 
+# --- sheets: the plain sheet of docs/SHEETS.md, in the pressure arithmetic
+
+
+def sheet_script():
+    """Samples and calls, granted and refused."""
+    lines = ["3 5 1023 7 0 4294967295", "tone 0", "tone 1", "tone 5", "tone 6", "edit 1 6", "tone 0", "tone 2"]
+    lines += ["shift 1", "tone 1", "shift 0", "shift 6", "tone 4", "mirror", "tone 1", "tone 3", "edit 6 1", "edit 5 2013265921"]
+    lines += ["tone 5", "lay 1 2 3 4 5 6", "tone 0", "tone 2", "lay 1 2 3", "lay 1 2 3 4 5 6 7", "lay", "tone 2"]
+    lines += ["shift 5", "mirror", "edit 0 1000", "lay 6 5 4 3 2 1", "shift 3"] + [f"tone {k}" for k in range(6)]
+    return lines
+
+
+def played(script):
+    """Each call of a script with its answer, by the samples alone."""
+    arithmetic = PRESSURE
+    samples = [int(word) for word in script[0].split()]
+    lines = []
+    for line in script[1:]:
+        call, *words = line.split()
+        given, n = [int(word) for word in words], len(samples)
+        answer = "done"
+        if call in ("edit", "shift", "tone") and given[0] >= n:
+            answer = f"refused 41 3 {given[0]}"
+        elif call == "lay" and len(given) != n:
+            answer = "refused 31 3 0"
+        elif call == "edit":
+            samples[given[0]] = given[1]
+        elif call == "shift":
+            samples = [samples[(t + given[0]) % n] for t in range(n)]
+        elif call == "mirror":
+            samples = [samples[(n - t) % n] for t in range(n)]
+        elif call == "lay":
+            samples = [arithmetic.sum(a, b) for a, b in zip(samples, given)]
+        else:
+            answer = "tone " + arithmetic.text(defining_sums(arithmetic, samples)[given[0]])
+        lines.append(f"{line}: {answer}")
+    return lines
+
+
 def outputs():
     """Every file that `write` writes, by its path."""
     files = strokes()
@@ -526,6 +565,8 @@ def outputs():
         "samples/signature.stroke": files["signature"],
         "crates/tones/stdin": files["four"],
         "crates/tones/stdout": text(printed_standard(files["four"])),
+        "crates/play/stdin": text(sheet_script()),
+        "crates/play/stdout": text(played(sheet_script())),
         "crates/cases/args": text(word for case in cases() for word in case),
         "crates/cases/stdout": text(case_lines(files)),
         "crates/exacts/stdin": text(given),
