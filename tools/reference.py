@@ -6,7 +6,8 @@ It shares nothing with the Rattle code, so that the two can be held against each
     python3 tools/reference.py tones FILE     prints what `tones` prints for the stroke file FILE
     python3 tools/reference.py write          writes samples/, and what the gate runs and expects:
                                               crates/tones/{stdin,stdout}, crates/cases/{args,data,stdout},
-                                              crates/exacts/{stdin,stdout}, crates/play/{stdin,stdout}
+                                              crates/exacts/{stdin,stdout}, crates/play/{stdin,stdout},
+                                              crates/polling/stdout
     python3 tools/reference.py check          says whether those files are what `write` would write
 """
 import math
@@ -202,6 +203,48 @@ def recursion(radices, samples):
     return tones
 
 
+def check_lent(span, n, buffer_length, work_length):
+    if span % n:
+        raise Refused(24, 3, n)
+    if buffer_length != n:
+        raise Refused(31, 3, 0)
+    if work_length < n + 8:
+        raise Refused(32, 3, 0)
+
+
+# --- runs, one stage at a poll: docs/TRANSFORM.md
+
+
+def blocks(radices, samples, done):
+    """The buffer of a run after so many stages: the first radices deal, and each block has the tones of its samples."""
+    if len(radices) == done:
+        return recursion(radices, samples)
+    r = radices[0]
+    return [value for q in range(r) for value in blocks(radices[1:], samples[q::r], done)]
+
+
+class Run:
+    def __init__(self, span, radices, samples, work_length):
+        check_plan(radices)
+        check_lent(span, product(radices), len(samples), work_length)
+        self.radices, self.samples, self.done, self.turns = radices, samples, 0, 0
+
+    def stage(self, span, buffer_length, work_length):
+        check_lent(span, product(self.radices), buffer_length, work_length)
+        if self.done == len(self.radices):
+            raise Refused(51, 3, 0)
+        self.done += 1
+        self.turns += product(self.radices) * self.radices[-self.done]
+
+    def finish(self):
+        if self.done < len(self.radices):
+            raise Refused(52, 3, 0)
+        return self.turns
+
+    def buffer(self):
+        return blocks(self.radices, self.samples, self.done)
+
+
 # --- stroke files: docs/FORMAT.md
 
 
@@ -248,17 +291,15 @@ def decode(data):
 # --- what is printed
 
 
+def element_lines(values):
+    return [f"{k} {x} {y}" for k, (x, y) in enumerate(values)]
+
+
 def tones(path, radices, buffer_length, work_length):
     n = product(radices)
-    if SPAN % n:
-        raise Refused(24, 3, n)
-    if buffer_length != n:
-        raise Refused(31, 3, 0)
-    if work_length < n + 8:
-        raise Refused(32, 3, 0)
+    check_lent(SPAN, n, buffer_length, work_length)
     spectrum = recursion(radices, [(1024 * x, 1024 * y) for x, y in path])
-    lines = [f"tones {n} turns {n * sum(radices)}"]
-    return lines + [f"{k} {x} {y}" for k, (x, y) in enumerate(spectrum)]
+    return [f"tones {n} turns {n * sum(radices)}"] + element_lines(spectrum)
 
 
 def printed_standard(data):
@@ -555,6 +596,63 @@ def played(script):
     return lines
 
 
+# --- the runs of the gate
+
+PRESSURE_SPAN = 7680
+
+
+def all_over(n):
+    """A path that goes all over the pad."""
+    return [(1024 * (389 * t % 2047 - 1023), 1024 * ((911 * t + 500) % 2047 - 1023)) for t in range(n)]
+
+
+def heard(call, *words):
+    try:
+        call(*words)
+        return "granted"
+    except Refused as refusal:
+        return str(refusal)
+
+
+def polled_lines(radices):
+    n = product(radices)
+    run = Run(SPAN, radices, all_over(n), 520)
+    lines = [f"plan {radices}"]
+    for left in range(len(radices), 0, -1):
+        lines += [f"left {left}"] + element_lines(run.buffer())
+        run.stage(SPAN, n, 520)
+    return lines + [f"turns {run.finish()}"] + element_lines(run.buffer())
+
+
+def abandoned_lines(n):
+    run = Run(SPAN, [2, 2, 2], all_over(8), 520)
+    lines = [heard(run.stage, SPAN, 8, 520)]
+    return lines + ["given up with left 2"] + element_lines([(0, 0)] * n)
+
+
+def insisting_lines():
+    run = Run(SPAN, [4, 2], all_over(8), 16)
+    lines = [heard(run.stage, SPAN, 7, 15), heard(run.stage, SPAN, 8, 15), heard(run.stage, SPAN, 8, 16)]
+    lines += [heard(run.finish), heard(run.stage, SPAN, 8, 16)]
+    lines += [heard(run.stage, SPAN, 8, 16), heard(run.stage, SPAN, 8, 15)]
+    return lines + [f"turns {run.finish()}"] + element_lines(run.buffer())
+
+
+def changing_lines():
+    run = Run(PRESSURE_SPAN, [3], [1023] * 3, 520)
+    lines = [heard(run.stage, SPAN, 3, 520), heard(run.stage, PRESSURE_SPAN, 3, 520)]
+    return lines + [f"turns {run.finish()}"] + element_lines(all_over(3))
+
+
+def polling_lines():
+    lines = []
+    for radices in ([], [2], [2, 2], [4, 2], [2, 4], [2, 2, 2], [2, 8, 4], [8, 8, 8]):
+        lines += polled_lines(radices)
+    for radices, n, room in (([2] * 10, 4, 520), ([2, 9], 4, 520), ([8, 8, 8, 2], 4, 520), ([3], 4, 11), ([4], 3, 11), ([4], 4, 11), ([4], 4, 12)):
+        lines.append(heard(Run, SPAN, radices, all_over(n), room))
+    return lines + abandoned_lines(8) + abandoned_lines(3) + insisting_lines() + changing_lines()
+
+
 def outputs():
     """Every file that `write` writes, by its path."""
     files = strokes()
@@ -571,6 +669,7 @@ def outputs():
         "crates/cases/stdout": text(case_lines(files)),
         "crates/exacts/stdin": text(given),
         "crates/exacts/stdout": text(printed),
+        "crates/polling/stdout": text(polling_lines()),
     }
     for name, data in files.items():
         made[f"crates/cases/data/{name}.stroke"] = data

@@ -19,9 +19,9 @@ block n b xs = take n (drop (b * n) xs)
 abbrev pub block-samples : {A : Type 0} → A → List ℕ → List ℕ → List A → ℕ → List A
 block-samples d first last a b = every d (size first) (size last) a (source first b)
 
--- the buffer of a run under the first and the last radices that began with the samples a
+-- the buffer of a run that began with the samples a, where the first radices are left and the last are done
 pub record ByBlocks {A R : Type 0} (m : Meaning A R) (first last : List ℕ) (a buf : List A) : Type 0 where
-  -- these are the samples that dealing put into the block, where the last radices deal them
+  -- these are the samples that dealing put into the block, in the order of the last radices
   pub samples : (b : ℕ) → b < size first → block (size last) b (dealt (m .zero) (first ++ last) a) ≡ dealt (m .zero) last (block-samples (m .zero) first last a b)
-  -- and now it holds their tones under the last radices
+  -- now it holds their tones under the last radices
   pub blocks : (b : ℕ) → b < size first → block (size last) b buf ≡ tones m last (block-samples (m .zero) first last a b)

@@ -14,11 +14,11 @@ use Rattle.spectrum.specs.declared.run.Run.{Run}
 use Rattle.spectrum.specs.Packed.{unpacked}
 use Rattle.spectrum.specs.Granted.{divided, lent, plans}
 
--- the radices of its plan
+-- the radices of a run's plan
 abbrev pub plan-of : Run → List ℕ
 plan-of run = unpacked (run .count) (run .radices)
 
--- what is seen of a run: its plan, how many of its stages are left, and the turns that the others made
+-- what is seen of a run: its radices, how many stages are left, and the turns that the others made
 pub record Seen : Type 0 where
   pub plan : List ℕ
   pub left : ℕ
@@ -31,24 +31,24 @@ seen run = record { plan = plan-of run; left = run .left; turns = run .turns }
 abbrev pub next-radix : Run → ℕ
 next-radix run = getD (plan-of run) (run .left - 1) 0
 
--- how many tones each of the parts has that this stage combines: the product of the radices that are done
+-- the tones in each part of the blocks that this stage combines: as many as the product of the radices that are done
 abbrev pub part-size : Run → ℕ
 part-size run = size (drop (run .left) (plan-of run))
 
--- what a call answers of a run
-abbrev pub in-sight : {E : Type 0} → Result Run E → Result Seen E
-in-sight r = mapped seen (λ e. e) r
+-- a call's answer, with what is seen of the run in it
+abbrev pub as-seen : {E : Type 0} → Result Run E → Result Seen E
+as-seen r = mapped seen (λ e. e) r
 
--- dealing under a plan answers a run
+-- dealing under a plan answers a run:
 abbrev pub begun : ℕ → List ℕ → ℕ → ℕ → Seen → Result Seen Fault
 begun span rs buf work run =
     andOther (plans rs) (andOther (divided span (size rs)) (andOther (lent (size rs) buf work) (Ok run)))
 
--- with every stage left
+-- one with every stage left,
 abbrev pub fresh : List ℕ → Seen
 fresh rs = record { plan = rs; left = length rs; turns = 0 }
 
--- or after i stages, which turned each of the N elements as often as the last i radices sum up to
+-- or, with i stages after it, one whose last i radices are done, each of which turned every one of the N elements as often as it says
 abbrev pub polled-run : List ℕ → ℕ → Seen
 polled-run rs i =
     record { plan = rs; left = length rs - i; turns = size rs * radix-sum (drop (length rs - i) rs) }

@@ -1,18 +1,17 @@
 // Runs that are driven from their samples on: part of the way, and all of it.
 ghost use mathlib.Core.Path.{_≡_};
 ghost use mathlib.Core.Bool.{cond};
-ghost use Prim.Native.Nat.{_-_};
 ghost use lib.ListN.{length, take, drop, replicate};
 ghost use Rattle.std.specs.Results.{isOk, Cases};
 ghost use Rattle.spectrum.specs.Tones.{tones};
 ghost use Rattle.spectrum.specs.Granted.{transformed};
-ghost use Rattle.spectrum.specs.Runs.{in-sight, begun, polled-run};
+ghost use Rattle.spectrum.specs.Runs.{as-seen, begun, polled-run};
 ghost use Rattle.spectrum.specs.ByBlocks.{ByBlocks};
 use crate::fault::Fault;
 use crate::run::Run;
 use arithmetic::Arithmetic;
 
-// Deals the samples in `buf` and takes so many stages, or all where they are fewer: each block of the buffer then
+// Deals the samples in `buf` and takes so many stages, or all where there are fewer. Each block of the buffer then
 // holds the tones of its samples under the radices that are done.
 // A refusal changes nothing, and a granted call leaves zeros in `work`.
 pub fn poll<X: Arithmetic>(
@@ -21,7 +20,7 @@ pub fn poll<X: Arithmetic>(
     buf: &mut [X],
     work: &mut [X],
 ) -> Result<Run, Fault>
-    ensures answer { λ r. ⌜ in-sight r ≡ begun (X·Arithmetic .meaning .span) (now (radices .entry)) (length (now (buf .entry))) (length (now (work .entry))) (polled-run (now (radices .entry)) polls) ⌝ }
+    ensures answer { λ r. ⌜ as-seen r ≡ begun (X·Arithmetic .meaning .span) (now (radices .entry)) (length (now (buf .entry))) (length (now (work .entry))) (polled-run (now (radices .entry)) polls) ⌝ }
     ensures after { λ r. ⌜ Cases r (λ run. ByBlocks (X·Arithmetic .meaning) (take (run .left) (now (radices .entry))) (drop (run .left) (now (radices .entry))) (now (buf .entry)) (now (buf .exit))) (λ _. now (buf .exit) ≡ now (buf .entry)) ⌝ }
     ensures work { λ r. ⌜ now (work .exit) ≡ cond (isOk r) (replicate (length (now (work .entry))) (X·Arithmetic .meaning .zero)) (now (work .entry)) ⌝ }
 {

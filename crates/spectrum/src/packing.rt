@@ -1,6 +1,6 @@
 // The radices of a plan in one word, and each of them out of it again.
 ghost use mathlib.Core.Path.{_≡_};
-ghost use Prim.Native.Nat.{_≤_, _<_};
+ghost use Prim.Native.Nat.{_<_, _≤_};
 ghost use lib.ListN.{length};
 ghost use Rattle.plan.specs.Radices.{most-radices, Each};
 ghost use Rattle.spectrum.specs.Packed.{radix-before, unpacked};
@@ -8,6 +8,7 @@ ghost use Rattle.spectrum.specs.Packed.{radix-before, unpacked};
 // How many bits a radix takes: the largest is 8.
 const RADIX_BITS: usize = 4;
 
+// The lowest of them, which hold the last radix.
 const RADIX_MASK: u64 = (1 << RADIX_BITS) - 1;
 
 // The word in which the radices stand in their order, the last one lowest.

@@ -13,7 +13,7 @@ pub struct Run {
     radices: u64,
     count: usize,
     len: usize,
-    // How many stages are left, of the first radices.
+    // How many stages are left: those of the first radices.
     left: usize,
     // The product of the radices whose stages are done.
     part: usize,
@@ -29,7 +29,7 @@ pub struct Run {
 }
 
 impl Run {
-    // Takes the run apart: of what it held the turns alone are handed on.
+    // Takes the run apart. What is left of it are the turns.
     fn spend(self) -> usize
         ensures answer { λ r. ⌜ r ≡ self .turns ⌝ }
     {
@@ -46,7 +46,8 @@ impl Run {
 }
 
 impl Drop for Run {
-    // A run that is still held is not spent, so none is ever let go: finishing and giving up alone spend one.
+    // A run that is still held is not spent: only finishing and giving up spend one, and no other way to let it go is
+    // proved.
     fn drop(self)
         requires { ⌜ ⊥ ⌝ }
     {

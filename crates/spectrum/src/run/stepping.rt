@@ -1,21 +1,20 @@
 // The calls of a run: dealing begins it, each stage takes it one radix on, and finishing or giving up ends it.
 ghost use mathlib.Core.Path.{_≡_};
 ghost use mathlib.Core.Bool.{cond};
-ghost use Prim.Native.Nat.{_-_, _*_, _<_};
+ghost use Prim.Native.Nat.{_*_, _<_};
 ghost use lib.ListN.{length, replicate};
-ghost use Rattle.std.specs.Results.{isOk, andOther};
-ghost use Rattle.plan.specs.Radices.{size};
+ghost use Rattle.std.specs.Results.{isOk};
 ghost use Rattle.plan.specs.Dealing.{dealt};
 ghost use Rattle.plan.specs.Planned.{radices-of};
 ghost use Rattle.spectrum.specs.Stages.{staged};
-ghost use Rattle.spectrum.specs.Granted.{divided, lent as lent-for};
-ghost use Rattle.spectrum.specs.Runs.{seen, in-sight, plan-of, next-radix, part-size, begun, fresh, ready as ready-for, onward, stepped, finished};
+ghost use Rattle.spectrum.specs.Runs.{seen, as-seen, next-radix, part-size, begun, fresh, ready as ready-for, onward, stepped, finished};
 use super::Run;
 use crate::engine;
 use crate::fault::Fault;
 use crate::fault::FaultFromPlan;
 use crate::packing::packed;
 use crate::packing::radix_before;
+use crate::tested::granted;
 use crate::transforms::divides;
 use crate::transforms::lent;
 use arithmetic::Arithmetic;
@@ -74,23 +73,21 @@ impl Run {
     // Deals the samples in `buf`, and begins the run that makes tones of them.
     // A refusal changes nothing, and a granted call leaves zeros in `work`.
     pub fn deal<X: Arithmetic>(radices: &[u8], buf: &mut [X], work: &mut [X]) -> Result<Run, Fault>
-        ensures answer { λ r. ⌜ in-sight r ≡ begun (X·Arithmetic .meaning .span) (now (radices .entry)) (length (now (buf .entry))) (length (now (work .entry))) (fresh (now (radices .entry))) ⌝ }
+        ensures answer { λ r. ⌜ as-seen r ≡ begun (X·Arithmetic .meaning .span) (now (radices .entry)) (length (now (buf .entry))) (length (now (work .entry))) (fresh (now (radices .entry))) ⌝ }
         ensures after { λ r. ⌜ now (buf .exit) ≡ cond (isOk r) (dealt (X·Arithmetic .meaning .zero) (now (radices .entry)) (now (buf .entry))) (now (buf .entry)) ⌝ }
         ensures work { λ r. ⌜ now (work .exit) ≡ cond (isOk r) (replicate (length (now (work .entry))) (X·Arithmetic .meaning .zero)) (now (work .entry)) ⌝ }
     {
         let plan = Plan::new(radices)?;
-        let n = plan.len();
-        divides::<X>(n)?;
-        lent(n, buf.len(), work.len())?;
+        granted::<X>(&plan, buf.len(), work.len())?;
         engine::deal(&plan, buf, work);
         engine::clear(work);
         Ok(Run::begin(&plan))
     }
 
-    // The next stage, on whatever `buf` holds; a refusal hands the run back and changes nothing.
-    // A granted call leaves zeros in `work`.
+    // The next stage, on whatever `buf` holds. A refusal hands the run back and changes nothing, and a granted call
+    // leaves zeros in `work`.
     pub fn stage<X: Arithmetic>(self, buf: &mut [X], work: &mut [X]) -> Result<Run, (Run, Fault)>
-        ensures answer { λ r. ⌜ in-sight r ≡ stepped (X·Arithmetic .meaning .span) self (length (now (buf .entry))) (length (now (work .entry))) ⌝ }
+        ensures answer { λ r. ⌜ as-seen r ≡ stepped (X·Arithmetic .meaning .span) self (length (now (buf .entry))) (length (now (work .entry))) ⌝ }
         ensures after { λ r. ⌜ now (buf .exit) ≡ cond (isOk r) (staged (X·Arithmetic .meaning) (next-radix self) (part-size self) (now (buf .entry))) (now (buf .entry)) ⌝ }
         ensures work { λ r. ⌜ now (work .exit) ≡ cond (isOk r) (replicate (length (now (work .entry))) (X·Arithmetic .meaning .zero)) (now (work .entry)) ⌝ }
     {
@@ -110,7 +107,7 @@ impl Run {
         self.left
     }
 
-    // The turns that the stages made, where none is left; else the run back.
+    // The turns that the stages made. Where a stage is left, the run is handed back.
     pub fn finish(self) -> Result<usize, (Run, Fault)>
         ensures answer { λ r. ⌜ r ≡ finished self ⌝ }
     {
@@ -120,7 +117,7 @@ impl Run {
         Ok(self.spend())
     }
 
-    // Ends the run at any stage, and leaves zeros in the buffer, of whatever length.
+    // Ends the run with any number of stages left, and leaves zeros in the buffer, of whatever length.
     pub fn give_up<X: Arithmetic>(self, buf: &mut [X])
         ensures after { λ _. ⌜ now (buf .exit) ≡ replicate (length (now (buf .entry))) (X·Arithmetic .meaning .zero) ⌝ }
     {
