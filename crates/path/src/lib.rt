@@ -10,7 +10,8 @@ mod powers;
 use arithmetic::Arithmetic;
 use powers::power;
 
-const MODULUS: u64 = 2147483647;
+// Both words are taken by 2^31 - 1.
+pub const MODULUS: u64 = 2147483647;
 
 const SPAN: u32 = 4608;
 

@@ -1,14 +1,16 @@
 // Why a call is refused, and whose doing it is.
 ghost use mathlib.Core.Path.{_≡_};
-ghost use Rattle.spectrum.specs.declared.fault.Fault.the-variants.{File as OfFile, Plan as OfPlan};
+ghost use Rattle.spectrum.specs.declared.fault.Fault.the-variants.{File as OfFile, Plan as OfPlan, Lent as OfLent};
 ghost use Rattle.spectrum.specs.Faults.{number-of, layer-of, place-of, layer-number};
 use plan::PlanFault;
 use stroke::FileFault;
+use stroke::LentFault;
 
 #[derive(Clone, Copy)]
 pub enum Fault {
     File(FileFault),
     Plan(PlanFault),
+    Lent(LentFault),
     // This length does not divide the arithmetic's span.
     Span(usize),
     // The arithmetic is not of the kind that the call needs.
@@ -49,6 +51,14 @@ pub impl From<PlanFault> for Fault as FaultFromPlan {
     }
 }
 
+pub impl From<LentFault> for Fault as FaultFromLent {
+    ghost converts = { λ f r. r ≡ OfLent f };
+
+    fn from(f: LentFault) -> Fault {
+        Fault::Lent(f)
+    }
+}
+
 impl Fault {
     pub fn number(self) -> u8
         ensures answer { λ r. ⌜ r ≡ number-of self ⌝ }
@@ -56,6 +66,7 @@ impl Fault {
         match self {
             Fault::File(f) => f.number(),
             Fault::Plan(f) => f.number(),
+            Fault::Lent(f) => f.number(),
             Fault::Span(_) => 24,
             Fault::Unfit => 26,
             Fault::Length => 31,
@@ -72,7 +83,8 @@ impl Fault {
         match self {
             Fault::File(_) => Layer::File,
             Fault::Plan(_) => Layer::Length,
-            Fault::Span(_)
+            Fault::Lent(_)
+            | Fault::Span(_)
             | Fault::Unfit
             | Fault::Length
             | Fault::Work
@@ -88,6 +100,7 @@ impl Fault {
         match self {
             Fault::File(f) => f.place(),
             Fault::Plan(f) => f.place(),
+            Fault::Lent(f) => f.place(),
             Fault::Span(n) | Fault::Place(n) => n,
             Fault::Unfit | Fault::Length | Fault::Work | Fault::NoStage | Fault::StagesLeft => 0,
         }

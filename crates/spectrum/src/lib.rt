@@ -15,6 +15,7 @@ pub use driving::poll;
 pub use driving::poll_through;
 pub use fault::Fault;
 pub use fault::FaultFromFile;
+pub use fault::FaultFromLent;
 pub use fault::FaultFromPlan;
 pub use fault::Layer;
 pub use inverses::inverse;

@@ -8,18 +8,24 @@ ghost use Rattle.stroke.specs.Reading.{contents, decode};
 ghost use Rattle.stroke.specs.Writing.{FileOf};
 
 mod fault;
+mod lent;
 mod view;
+mod writing;
 
 pub use fault::FileFault;
+pub use lent::Lent;
+pub use lent::LentFault;
 use view::FIELD;
 pub use view::Stroke;
 use view::sample_size;
+pub use writing::write;
+pub use writing::writing_stands;
 
 // The most bytes of a file.
 const MOST_BYTES: usize = 65_536;
 
 // The most samples of a stroke.
-const MOST_SAMPLES: usize = 512;
+pub const MOST_SAMPLES: usize = 512;
 
 // How many bytes the trailer has.
 const TRAILER: usize = 8;

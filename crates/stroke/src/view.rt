@@ -30,7 +30,7 @@ pub(crate) fn sample_size(pressed: bool) -> usize
 }
 
 // The first field of a sample that is beyond its limits: 0 is x, 1 is y, 2 is the pressure.
-fn field_beyond(x: i16, y: i16, pressure: u16) -> Option<usize>
+pub(crate) fn field_beyond(x: i16, y: i16, pressure: u16) -> Option<usize>
     ensures { λ r. ⌜ r ≡ field-beyond x y pressure ⌝ }
 {
     if x.unsigned_abs() > LIMIT {

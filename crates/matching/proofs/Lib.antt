@@ -1,0 +1,9 @@
+mod Standing
+mod Totals
+mod LaggedSums
+mod Entering
+mod Best
+mod Filling
+mod WholeMatches
+mod WholePressures
+mod Granting

@@ -1,0 +1,4 @@
+pub mod Lags
+pub mod Readings
+pub mod Matched
+pub mod Worked
