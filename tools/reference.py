@@ -59,7 +59,7 @@ def add(a, b):
 class Pressure:
     """The whole numbers modulo a prime, turned by the powers of a root."""
 
-    name, full = "pressure", True
+    name, full, parts = "pressure", True, 1
     modulus = 15 * 2**27 + 1
     span = 7680
     root = 143112044  # docs/ARITHMETICS.md, "The roots"
@@ -84,7 +84,7 @@ class Pressure:
 class Path:
     """Pairs (u, v) modulo a prime, as u + v times a root of -1, turned by the powers of a root."""
 
-    name, full = "path", True
+    name, full, parts = "path", True, 2
     modulus = 2**31 - 1
     span = 4608
     root = (1569797033, 1612820169)  # docs/ARITHMETICS.md, "The roots"
@@ -557,41 +557,76 @@ def exact_lines():
     return given, printed
 
 
-# --- sheets: the plain sheet of docs/SHEETS.md, in the pressure arithmetic
+# --- sheets: the plain sheet of docs/SHEETS.md
 
 
-def sheet_script():
-    """Samples and calls, granted and refused."""
-    lines = ["3 5 1023 7 0 4294967295", "tone 0", "tone 1", "tone 5", "tone 6", "edit 1 6", "tone 0", "tone 2"]
-    lines += ["shift 1", "tone 1", "shift 0", "shift 6", "tone 4", "mirror", "tone 1", "tone 3", "edit 6 1", "edit 5 2013265921"]
-    lines += ["tone 5", "lay 1 2 3 4 5 6", "tone 0", "tone 2", "lay 1 2 3", "lay 1 2 3 4 5 6 7", "lay", "tone 2"]
-    lines += ["shift 5", "mirror", "edit 0 1000", "lay 6 5 4 3 2 1", "shift 3"] + [f"tone {k}" for k in range(6)]
-    return lines
+def sheet_calls(x, n, seed, many):
+    """So many calls on a sheet of n samples, refused ones among them."""
+    numbers = Numbers(seed)
+    words = [0, 1, 1023, x.modulus - 1, x.modulus, x.modulus + 5, 2**32 - 1]
+
+    def element():
+        parts = [words[numbers.below(7)] if numbers.below(2) else numbers.below(2**32) for _ in range(x.parts)]
+        return ",".join(str(part) for part in parts)
+
+    def place():
+        return numbers.below(n + 2) if numbers.below(8) == 0 else numbers.below(n)
+
+    def call():
+        kind = numbers.below(8)
+        if kind < 2:
+            return f"edit {place()} {element()}"
+        if kind == 2:
+            return f"shift {place()}"
+        if kind == 3:
+            return "mirror"
+        if kind == 4:
+            return "lay " + " ".join(element() for _ in range(n - (numbers.below(4) == 0)))
+        return f"tone {place()}"
+
+    samples = f"{x.name} " + " ".join(element() for _ in range(n))
+    return [samples] + [call() for _ in range(many)] + [f"tone {k}" for k in range(n)]
+
+
+def sheet_scripts():
+    worked = ["pressure 3 5", "tone 0", "tone 1", "edit 1 6", "tone 0", "tone 1", "shift 1", "tone 0", "tone 1", "tone 2"]
+    scripts = [worked]
+    for x in (PRESSURE, PATH):
+        for n in (1, 2, 3, 6, 12):
+            scripts.append(sheet_calls(x, n, 100 * n + x.parts, 60))
+    return scripts + [["path 1,2 3,4 5,6 7,8 9,10", "tone 0"], ["pressure " + "1 " * 11, "mirror"], ["pressure", "tone 0"]]
 
 
 def played(script):
     """Each call of a script with its answer, by the samples alone."""
-    arithmetic = PRESSURE
-    samples = [int(word) for word in script[0].split()]
-    lines = []
+    name, *words = script[0].split()
+    x = {"pressure": PRESSURE, "path": PATH}[name]
+    element = lambda word: tuple(int(part) for part in word.split(",")) if x is PATH else int(word)
+    samples, lines = [element(word) for word in words], [name]
+    n = len(samples)
+    try:
+        standard_plan(n)
+        if x.span % n:
+            raise Refused(24, 3, n)
+    except Refused as refusal:
+        return lines + [str(refusal)]
     for line in script[1:]:
-        call, *words = line.split()
-        given, n = [int(word) for word in words], len(samples)
+        call, *given = line.split()
         answer = "done"
-        if call in ("edit", "shift", "tone") and given[0] >= n:
+        if call in ("edit", "shift", "tone") and int(given[0]) >= n:
             answer = f"refused 41 3 {given[0]}"
         elif call == "lay" and len(given) != n:
             answer = "refused 31 3 0"
         elif call == "edit":
-            samples[given[0]] = given[1]
+            samples[int(given[0])] = element(given[1])
         elif call == "shift":
-            samples = [samples[(t + given[0]) % n] for t in range(n)]
+            samples = [samples[(t + int(given[0])) % n] for t in range(n)]
         elif call == "mirror":
             samples = [samples[(n - t) % n] for t in range(n)]
         elif call == "lay":
-            samples = [arithmetic.sum(a, b) for a, b in zip(samples, given)]
+            samples = [x.sum(a, element(b)) for a, b in zip(samples, given)]
         else:
-            answer = "tone " + arithmetic.text(defining_sums(arithmetic, samples)[given[0]])
+            answer = "tone " + x.text(defining_sums(x, samples)[int(given[0])])
         lines.append(f"{line}: {answer}")
     return lines
 
@@ -663,8 +698,8 @@ def outputs():
         "samples/signature.stroke": files["signature"],
         "crates/tones/stdin": files["four"],
         "crates/tones/stdout": text(printed_standard(files["four"])),
-        "crates/play/stdin": text(sheet_script()),
-        "crates/play/stdout": text(played(sheet_script())),
+        "crates/play/stdin": "\n\n".join("\n".join(script) for script in sheet_scripts()).encode(),
+        "crates/play/stdout": text(line for script in sheet_scripts() for line in played(script)),
         "crates/cases/args": text(word for case in cases() for word in case),
         "crates/cases/stdout": text(case_lines(files)),
         "crates/exacts/stdin": text(given),

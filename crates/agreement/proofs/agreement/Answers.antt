@@ -1,6 +1,7 @@
 use Rattle.spectrum.proofs.SpectraLaws.{spectra-laws}
 use Rattle.sheet.proofs.SheetLaws.{sheet-laws}
 use Rattle.distance.proofs.Distance.{tones-are-near-sums}
+use Rattle.agreement.proofs.Opened.{opened-follows}
 use Rattle.agreement.proofs.agreement.Needs as need
 
 pub returns : need.returns
@@ -17,9 +18,8 @@ returns g c =
           convolve = spectra .convolve full;
         };
         sheets = λ full. record {
-          opens = sheets .opens (laws .full-is-exact full);
+          run = opened-follows (g .X·Arithmetic .meaning) (sheets .opens (laws .full-is-exact full)) (sheets .run (laws .full-is-exact full));
           call = sheets .call (laws .full-is-exact full);
-          run = sheets .run (laws .full-is-exact full);
         };
         fixed = tones-are-near-sums;
       };
