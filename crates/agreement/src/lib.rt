@@ -1,4 +1,6 @@
 // What both makers are held to, in one contract.
+#![tactic(auto)]
+
 ghost use Rattle.agreement.specs.Agreement.{Agreement};
 
 use arithmetic::Arithmetic;

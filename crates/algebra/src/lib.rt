@@ -1,1 +1,2 @@
 // Lemmas only: what the proofs of several crates share.
+#![tactic(auto)]

@@ -1,4 +1,6 @@
 // The one interface behind which every arithmetic stands, and the laws that each shows.
+#![tactic(auto)]
+
 ghost use Rattle.std.specs.Prelude.{◌≡◌};
 ghost use Rattle.arithmetic.specs.Meaning.{Meaning};
 ghost use Rattle.arithmetic.specs.Laws.{Lawful};

@@ -3,6 +3,8 @@
 //
 // The arguments come by threes: a stroke file by its name; a plan, which is 'standard', '-' for the empty one, or radices joined
 // by commas; and how many elements of work are lent.
+#![tactic(auto)]
+
 use arithmetic::Arithmetic;
 use fixed::Fixed;
 use pad::{Failure, refusal_text, report_on, spectrum_text};

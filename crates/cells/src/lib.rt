@@ -1,4 +1,6 @@
 // The calls of a sheet on its cells: N samples, and their tones after them.
+#![tactic(auto)]
+
 ghost use Rattle.std.specs.Prelude.{◌≡◌, ◌+◌, ◌%◌, ◌^◌, ◌<◌, length};
 ghost use Rattle.arithmetic.specs.Laws.{Divides};
 ghost use Rattle.spectra.specs.Moves.{mirrored, laid as laid_on};

@@ -1,4 +1,6 @@
 // Matches the strokes in two files, which its arguments name, and prints their best lags, or why they are refused.
+#![tactic(auto)]
+
 use comparison::report_on;
 use pad::{Failure, refusal_text};
 use std::io::Read;

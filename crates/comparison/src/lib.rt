@@ -1,4 +1,6 @@
 // What the program `compare` does with two stroke files: their match, and the text that is printed of it.
+#![tactic(auto)]
+
 mod files;
 mod report;
 mod samples;

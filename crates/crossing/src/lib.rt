@@ -1,5 +1,7 @@
 // Every call in the form in which it can be handed to other languages: numbers and lent lists alone go in and out, runs and
 // sheets are held as numbers, and a refusal is three numbers.
+#![tactic(auto)]
+
 mod plans;
 mod sheets;
 mod status;

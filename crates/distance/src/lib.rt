@@ -1,4 +1,6 @@
 // How far the fixed tones can be from the sums before rounding.
+#![tactic(auto)]
+
 ghost use Rattle.distance.specs.Distance.{TonesAreNearSums};
 
 // The bound that both parts of every tone keep, under every plan of the stroke's length.

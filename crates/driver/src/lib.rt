@@ -1,4 +1,6 @@
 // The calls of a pad's driver, for C, as include/strokes.h declares them. Each hands on to the call that it is named after.
+#![tactic(auto)]
+
 mod sheets;
 mod stepping;
 mod strokes;

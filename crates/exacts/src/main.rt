@@ -4,6 +4,8 @@
 // A case is a line: the arithmetic, the call, the radices joined by commas ('-' for none), and how many elements of
 // work are lent. After a ':' come the lent lists, a '|' between two: one for transform and inverse; for convolve both
 // factors, and what lies where the result goes. The words of one element are joined by a comma.
+#![tactic(auto)]
+
 mod element;
 
 use anyhow::anyhow;

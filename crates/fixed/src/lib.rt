@@ -1,4 +1,6 @@
 // The fixed arithmetic: pairs of 32-bit numbers in units of 1/1,024 of a count.
+#![tactic(auto)]
+
 ghost use Rattle.std.specs.Prelude.{◌≡◌, ◌^◌, ◌≤◌, ◌*ℤ◌, unsigned_abs};
 ghost use Rattle.fixed.specs.Pairs.{fixed, sampled, TurnsByZero};
 ghost use Rattle.fixed.specs.Range.{into_range, BringsIntoRange};

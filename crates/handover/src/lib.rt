@@ -1,4 +1,6 @@
 // Strokes that are handed over in lent lists of numbers: read from files, written as files, and matched.
+#![tactic(auto)]
+
 mod lending;
 mod matches;
 mod reading;

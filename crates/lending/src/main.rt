@@ -4,6 +4,8 @@
 // A case is a line. 'match ROOM LAGS: STROKE | STROKE' prints the pairs of the lags that are named, joined by commas,
 // or of every lag where LAGS is 'all'. 'write ROOM: STROKE' prints all of the output. ROOM is how long the output is.
 // A stroke is its path, a '/' and its pressures, or '-' for none at all. 'V*N' stands for N times V.
+#![tactic(auto)]
+
 mod given;
 mod matches;
 mod writes;

@@ -1,4 +1,6 @@
 // Matching two strokes: their sums at every lag, and the lags at which they agree best.
+#![tactic(auto)]
+
 mod lagged;
 mod matched;
 mod paths;

@@ -1,4 +1,6 @@
 // What the program does with a stroke file: its spectrum in the fixed arithmetic, and the text that is printed of it.
+#![tactic(auto)]
+
 mod entering;
 mod files;
 mod report;

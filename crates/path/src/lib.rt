@@ -1,4 +1,6 @@
 // The path arithmetic: pairs (u, v) modulo 2^31 - 1, turned by the powers of a root.
+#![tactic(auto)]
+
 ghost use Rattle.std.specs.Prelude.{◌≡◌, ◌+◌, ◌*◌, ◌%◌, ◌<◌};
 ghost use Rattle.path.specs.Paths.{modulus, opposite, inverse, signed, sampled, paths};
 ghost use Rattle.path.specs.Root.{Order};

@@ -1,4 +1,6 @@
 // Plans: the factors that a transform takes a length by, and the order in which it deals the samples.
+#![tactic(auto)]
+
 mod checked;
 mod dealing;
 mod fault;

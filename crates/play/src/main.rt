@@ -2,6 +2,8 @@
 //
 // A script begins with a line of samples after the word 'pressure' or 'path'. Every line after it is a call: 'edit N V',
 // 'shift H', 'mirror', 'lay V V ..' or 'tone K'. The two words of a path element are joined by a comma.
+#![tactic(auto)]
+
 mod element;
 mod worked;
 

@@ -1,5 +1,7 @@
 // Polls runs in the fixed arithmetic and prints what the buffer holds after each stage; gives a run up half way; and
 // has each call refused, after which the run goes on and is finished.
+#![tactic(auto)]
+
 use anyhow::anyhow;
 use arithmetic::Arithmetic;
 use fixed::Fixed;

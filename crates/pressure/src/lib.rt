@@ -1,4 +1,6 @@
 // The pressure arithmetic: the whole numbers modulo 15·2^27 + 1, turned by the powers of a root.
+#![tactic(auto)]
+
 ghost use Rattle.std.specs.Prelude.{◌≡◌, ◌+◌, ◌*◌, ◌%◌};
 ghost use Rattle.pressure.specs.Pressures.{modulus, inverse, counted, pressures};
 ghost use Rattle.pressure.specs.Root.{Order};

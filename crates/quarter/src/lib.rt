@@ -1,4 +1,6 @@
 // The constant table of directions: a quarter of the circle, and by symmetry the whole.
+#![tactic(auto)]
+
 ghost use Rattle.std.specs.Prelude.{◌≡◌, ◌≤◌, pos, if◌then◌else◌, slice_index_or};
 ghost use Rattle.quarter.specs.Bisection.{Circle};
 ghost use Rattle.quarter.specs.Entries.{quarter, entry, Short, quarters_onward};

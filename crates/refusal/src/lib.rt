@@ -1,4 +1,6 @@
 // Why a call is refused, and whose doing it is.
+#![tactic(auto)]
+
 ghost use Rattle.std.specs.Prelude.{◌≡◌};
 ghost use Rattle.refusal.specs.declared.Fault.TheVariants.{File as OfFile, Plan as OfPlan, Lent as OfLent};
 ghost use Rattle.refusal.specs.Faults.{number_of, layer_of, place_of, layer_number};

@@ -1,4 +1,6 @@
 // A list of calls, played on a sheet: each is answered as the plain sheet answers it.
+#![tactic(auto)]
+
 ghost use Rattle.std.specs.Prelude.{◌≡◌, map, length, replicate, is_ok, if◌then◌else◌, OnOk};
 ghost use Rattle.cells.specs.declared.answers.Answer.TheVariants.{Done as done};
 ghost use Rattle.cells.specs.Plain.{answered};

@@ -1,4 +1,6 @@
 // Runs: a transform taken one stage at a poll.
+#![tactic(auto)]
+
 mod driving;
 mod packing;
 mod run;

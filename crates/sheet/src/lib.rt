@@ -1,4 +1,6 @@
 // Sheets: samples and their tones in one lent buffer, kept together call by call.
+#![tactic(auto)]
+
 mod opening;
 mod sheets;
 

@@ -1,4 +1,6 @@
 // Spectra by their definitions, and what holds of them: the tones of the recursion, the defining sums, the inverse and the convolution.
+#![tactic(auto)]
+
 ghost use Rattle.spectra.specs.SpectraLaws.{SpectraLaws};
 
 use arithmetic::Arithmetic;

@@ -1,4 +1,6 @@
 // Spectra over any arithmetic: deal the samples, then one stage for each radix, where they stand.
+#![tactic(auto)]
+
 mod convolving;
 mod engine;
 mod inverses;

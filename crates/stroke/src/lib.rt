@@ -1,4 +1,6 @@
 // Stroke files: bytes are read to the stroke that lies in them, or refused.
+#![tactic(auto)]
+
 ghost use Rattle.std.specs.Prelude.{◌≡◌, IfOk, Ok, Err, MatchResult};
 ghost use Rattle.stroke.specs.Format.{Granted, ReadsBack, FirstNamed};
 ghost use Rattle.stroke.specs.Reading.{contents, decode};

@@ -1,4 +1,6 @@
 // Reads a stroke file on standard input and prints its spectrum, or why it is refused.
+#![tactic(auto)]
+
 use pad::{Failure, refusal_text, report_on};
 use std::io::Read;
 use std::{fmt, io};

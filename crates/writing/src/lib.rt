@@ -1,4 +1,6 @@
 // Strokes in lent lists of counts, and the files that they are written as.
+#![tactic(auto)]
+
 ghost use Rattle.std.specs.Prelude.{◌≡◌, ◌*◌, ◌^◌, ◌<◌, length, is_some, IfOk};
 ghost use Rattle.stroke.specs.Layout.{sample_size};
 ghost use Rattle.stroke.specs.Writing.{sample_bytes, samples_bytes, trailer};
