@@ -6,9 +6,9 @@ use Rattle.cells.proofs.edit_cells.Goals as goal
 pub returns : goal.returns
 returns g c =
     let m = g.X.Arithmetic.meaning in
-    let granted = c.in-ok-fits.ensures.answer in
+    let granted = c.in_ok-fits.ensures.answer in
     let fits = fits_from_granted m c.args.n _ granted in
     record {
-      answer = c.in-ok-within.ensures.answer ∙ both_granted _ _ granted;
-      after = edited_cells m c.args.n _ fits.whole c.args.i c.args.v _ _ _ (numbered_within _ _ c.in-ok-within.ensures.answer) c.index-cells-i.is c.difference-change.ensures c.edit-tones.ensures.after;
+      answer = c.in_ok-within.ensures.answer ∙ both_granted _ _ granted;
+      after = edited_cells m c.args.n _ fits.whole c.args.i c.args.v _ _ _ (numbered_within _ _ c.in_ok-within.ensures.answer) c.index-cells-i.is c.difference-change.ensures c.edit_tones.ensures.after;
     }

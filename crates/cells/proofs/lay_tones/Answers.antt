@@ -14,7 +14,7 @@ loop-k-preserved g c =
     let k = c.loop-k.k in
     let room : k < length c.loop-k.tones = omega arith in
     written_more k _ c.loop-k.invariant room
-    (laid_next m (spectrum m b) k _ _ _ c.loop-k.invariant room c.index-tones-k.is (c.tone-of.ensures.answer ∙ sym (at_place m.zero (defining m b) (length b) k c.loop-k-test.true)) c.sum.ensures)
+    (laid_next m (spectrum m b) k _ _ _ c.loop-k.invariant room c.index-tones-k.is (c.tone_of.ensures.answer ∙ sym (at_place m.zero (defining m b) (length b) k c.loop-k-test.true)) c.sum.ensures)
 
 pub returns : goal.returns
 unfolding laid

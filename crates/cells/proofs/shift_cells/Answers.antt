@@ -11,11 +11,11 @@ returns g c =
     let m = g.X.Arithmetic.meaning in
     let n = c.args.n in
     let h = c.args.h in
-    let granted = c.in-ok-fits.ensures.answer in
+    let granted = c.in_ok-fits.ensures.answer in
     let fits = fits_from_granted m n _ granted in
-    let within = numbered_within n h c.in-ok-within.ensures.answer in
+    let within = numbered_within n h c.in_ok-within.ensures.answer in
     let room : h ≤ length (take (n - 0) c.args.cells.now) = simp length-take (omega arith) in
     record {
-      answer = c.in-ok-within.ensures.answer ∙ both_granted _ _ granted;
-      after = halves_put _ _ fits.whole (shifted m.zero h) (tones_shifted m h) _ _ c.rotate-left.auto.self (c.rotate-left.ensures.after ∙ rotated m.zero h _ room) c.shift-tones.ensures.after;
+      answer = c.in_ok-within.ensures.answer ∙ both_granted _ _ granted;
+      after = halves_put _ _ fits.whole (shifted m.zero h) (tones_shifted m h) _ _ c.rotate_left.auto.self (c.rotate_left.ensures.after ∙ rotated m.zero h _ room) c.shift_tones.ensures.after;
     }

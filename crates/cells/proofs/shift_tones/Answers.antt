@@ -5,8 +5,8 @@ use Rattle.cells.proofs.Written.{written_none, written_more, written_all}
 use Rattle.cells.proofs.NextTones.{shifted_next}
 use Rattle.cells.proofs.shift_tones.Goals as goal
 
-pub overflow-cast-e : goal.overflow-cast-e
-overflow-cast-e g c = omega (arith, walk_fits g.met.X.Arithmetic.lawful.every c.span-span.ensures c.requires.divides c.loop-tone.invariant.0)
+pub overflow_cast-e : goal.overflow_cast-e
+overflow_cast-e g c = omega (arith, walk_fits g.met.X.Arithmetic.lawful.every c.span-span.ensures c.requires.divides c.loop-tone.invariant.0)
 
 pub loop-tone-init : goal.loop-tone-init
 loop-tone-init g c = (walked_none g.met.X.Arithmetic.lawful.every c.span-span.ensures c.requires.divides, written_none)

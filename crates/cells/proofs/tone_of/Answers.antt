@@ -5,8 +5,8 @@ use Rattle.cells.proofs.Walks.{walk_fits, walk_allowed, walked_one, walked_more}
 use Rattle.cells.proofs.NextTones.{sample_turned, summed_one, summed_more}
 use Rattle.cells.proofs.tone_of.Goals as goal
 
-pub overflow-cast-e : goal.overflow-cast-e
-overflow-cast-e g c = omega (arith, walk_fits g.met.X.Arithmetic.lawful.every c.span-span.ensures c.requires.divides c.loop-t.invariant.0)
+pub overflow_cast-e : goal.overflow_cast-e
+overflow_cast-e g c = omega (arith, walk_fits g.met.X.Arithmetic.lawful.every c.span-span.ensures c.requires.divides c.loop-t.invariant.0)
 
 pub loop-t-init : goal.loop-t-init
 loop-t-init g c = (

@@ -5,8 +5,8 @@ use Rattle.replay.specs.Replaying.{plainly}
 use Rattle.replay.proofs.Playing.{finally_more, finally_all, answers_more, answers_all}
 use Rattle.replay.proofs.play_all.Goals as goal
 
-pub offset-bounds-answers-i : goal.offset-bounds-answers-i
-offset-bounds-answers-i g c = let room : c.loop-i.i < length c.args.answers.now = omega arith in search rules
+pub offset_bounds-answers-i : goal.offset_bounds-answers-i
+offset_bounds-answers-i g c = let room : c.loop-i.i < length c.args.answers.now = omega arith in search rules
 
 pub loop-i-preserved : goal.loop-i-preserved
 loop-i-preserved g c =

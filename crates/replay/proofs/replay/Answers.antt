@@ -15,24 +15,24 @@ returns g c =
     let rs = c.args.radices.now in
     let cells = c.args.cells.now in
     let calls = map plainly c.args.calls.now in
-    let sizes = c.in-ok-sized.ensures.answer in
-    let opens = c.in-ok-n.ensures.answer in
-    let holds = c.in-ok-n.ensures.sheet in
-    let n = c.in-ok-n.n in
+    let sizes = c.in_ok-sized.ensures.answer in
+    let opens = c.in_ok-n.ensures.answer in
+    let holds = c.in_ok-n.ensures.sheet in
+    let n = c.in_ok-n.n in
     let long : n ≡ size rs = opened_length m rs (length cells) _ _ _ sizes opens in
     let start = c.open.new.cells in
     let over = c.over-sheet.ensures in
-    let same = c.play-all.ensures.kept.same ∙ over.named in
-    let says : c.play-all.new.answers ≡ sheet_answers m n calls start =
-    c.play-all.ensures.answers ∙ ap (λ k. sheet_answers m k calls (cells_of c.over-sheet.result)) over.len ∙ ap (sheet_answers m n calls) over.cells in
-    let left : cells_of c.play-all.new.sheet ≡ sheet_finally m n calls start =
-    c.play-all.ensures.after ∙ ap (λ k. sheet_finally m k calls (cells_of c.over-sheet.result)) over.len ∙ ap (sheet_finally m n calls) over.cells in
-    let final : cells_of c.play-all.new.sheet ≡ sheet_finally m (size rs) calls (filled m rs cells) =
-    left ∙ ap (λ k. sheet_finally m k calls start) long ∙ ap (sheet_finally m (size rs) calls) c.in-ok-n.ensures.after in
+    let same = c.play_all.ensures.kept.same ∙ over.named in
+    let says : c.play_all.new.answers ≡ sheet_answers m n calls start =
+    c.play_all.ensures.answers ∙ ap (λ k. sheet_answers m k calls (cells_of c.over-sheet.result)) over.len ∙ ap (sheet_answers m n calls) over.cells in
+    let left : cells_of c.play_all.new.sheet ≡ sheet_finally m n calls start =
+    c.play_all.ensures.after ∙ ap (λ k. sheet_finally m k calls (cells_of c.over-sheet.result)) over.len ∙ ap (sheet_finally m n calls) over.cells in
+    let final : cells_of c.play_all.new.sheet ≡ sheet_finally m (size rs) calls (filled m rs cells) =
+    left ∙ ap (λ k. sheet_finally m k calls start) long ∙ ap (sheet_finally m (size rs) calls) c.in_ok-n.ensures.after in
     record {
       answer = replay_granted m rs (length cells) _ _ _ sizes opens _ _ c.if-answers-calls.false;
       answers = replayed_answers law rs _ n _ cells sizes opens start holds calls _ says;
       after = search rules;
       sheet = replayed_holds law rs _ n _ cells sizes opens start holds calls _ (search rules);
-      work = c.in-ok-n.ensures.work;
+      work = c.in_ok-n.ensures.work;
     }

@@ -10,25 +10,25 @@ use Rattle.writing.proofs.write.Goals as goal
 pub returns-then-out-len : goal.returns-then-out-len
 returns-then-out-len c =
     let s = held c.args.stroke.now in
-    let size = c.in-ok-sized.ensures.answer in
-    let limits = c.in-ok-within-limits.ensures.answer in
+    let size = c.in_ok-sized.ensures.answer in
+    let limits = c.in_ok-within_limits.ensures.answer in
     let out = c.args.out.now in
-    let wide = c.sample-size-size.ensures ∙ ap sample_size c.has-pressure-pressed.ensures in
+    let wide = c.sample_size-size.ensures ∙ ap sample_size c.has_pressure-pressed.ensures in
     let short = written_short s size limits (length out) _ (written_sized s size limits _ wide) c.if-out-len.true in
     record { answer = short; after = stays s out _ short; back = tt }
 
 pub returns : goal.returns
 returns c =
     let s = held c.args.stroke.now in
-    let size = c.in-ok-sized.ensures.answer in
-    let limits = c.in-ok-within-limits.ensures.answer in
+    let size = c.in_ok-sized.ensures.answer in
+    let limits = c.in_ok-within_limits.ensures.answer in
     let out = c.args.out.now in
-    let wide = c.sample-size-size.ensures ∙ ap sample_size c.has-pressure-pressed.ensures in
+    let wide = c.sample_size-size.ensures ∙ ap sample_size c.has_pressure-pressed.ensures in
     let len = written_sized s size limits _ wide in
-    let far : length s.path * c.sample-size-size.result ≡ length (samples_bytes s) = ap (λ w. length s.path * w) wide ∙ sym (length_samples s) in
+    let far : length s.path * c.sample_size-size.result ≡ length (samples_bytes s) = ap (λ w. length s.path * w) wide ∙ sym (length_samples s) in
     let whole = written_whole s size limits (length out) _ len c.if-out-len.false in
-    let file = file_left s c.write-samples.new.out c.copy-from-slice.new.self out _ c.has-pressure-pressed.result
-    c.write-samples.ensures.after (c.copy-from-slice.ensures.after ∙ c.trailer.ensures) far c.has-pressure-pressed.ensures in
+    let file = file_left s c.write_samples.new.out c.copy_from_slice.new.self out _ c.has_pressure-pressed.result
+    c.write_samples.ensures.after (c.copy_from_slice.ensures.after ∙ c.trailer.ensures) far c.has_pressure-pressed.ensures in
     record {
       answer = whole;
       after = file ∙ leaves s out _ whole;

@@ -2,23 +2,23 @@ use Rattle.std.proofs.lemmas.Result.{IfOk-from_err}
 use Rattle.comparison.proofs.Comparing.{told, first_unread, second_unread, both_read, both_best}
 use Rattle.comparison.proofs.files.compare_files.Goals as goal
 
-pub returns-in-err-a : goal.returns-in-err-a
-returns-in-err-a c =
-    let is = first_unread c.args.first.now c.args.second.now _ c.in-err-a.ensures.answer in
+pub returns-in_err-a : goal.returns-in_err-a
+returns-in_err-a c =
+    let is = first_unread c.args.first.now c.args.second.now _ c.in_err-a.ensures.answer in
     record { answer = told _ _ _ is c.from-residual.ensures.1; best = IfOk-from_err _ _ c.from-residual.ensures.0 }
 
-pub returns-in-err-b : goal.returns-in-err-b
-returns-in-err-b c =
-    let is = second_unread c.args.first.now c.args.second.now _ c.in-ok-a.ensures.answer _ c.in-err-b.ensures.answer in
-    record { answer = told _ _ _ is c.from-residual-in-err-b.ensures.1; best = IfOk-from_err _ _ c.from-residual-in-err-b.ensures.0 }
+pub returns-in_err-b : goal.returns-in_err-b
+returns-in_err-b c =
+    let is = second_unread c.args.first.now c.args.second.now _ c.in_ok-a.ensures.answer _ c.in_err-b.ensures.answer in
+    record { answer = told _ _ _ is c.from-residual-in_err-b.ensures.1; best = IfOk-from_err _ _ c.from-residual-in_err-b.ensures.0 }
 
 pub returns : goal.returns
 returns c =
     let bs = c.args.first.now in
     let cs = c.args.second.now in
-    let first = c.in-ok-a.ensures.answer in
-    let second = c.in-ok-b.ensures.answer in
+    let first = c.in_ok-a.ensures.answer in
+    let second = c.in_ok-b.ensures.answer in
     record {
-      answer = both_read bs cs _ first _ second _ c.compare-strokes.ensures.answer;
-      best = both_best bs cs _ first _ second _ c.compare-strokes.ensures.best;
+      answer = both_read bs cs _ first _ second _ c.compare_strokes.ensures.answer;
+      best = both_best bs cs _ first _ second _ c.compare_strokes.ensures.best;
     }

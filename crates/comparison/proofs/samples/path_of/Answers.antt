@@ -10,7 +10,7 @@ pub loop-i-preserved : goal.loop-i-preserved
 loop-i-preserved c =
     let path = (contents c.args.stroke.now).path in
     let i = c.loop-i.i in
-    let is = c.unwrap-or.ensures ∙ ap (λ o. unwrap_or o origin) c.path.ensures ∙ nth_or path i origin in
+    let is = c.unwrap_or.ensures ∙ ap (λ o. unwrap_or o origin) c.path.ensures ∙ nth_or path i origin in
     (simp length-set c.loop-i.invariant.0, copied_more origin path i c.loop-i.out _ (omega arith) is c.loop-i.invariant.1)
 
 pub returns : goal.returns

@@ -10,7 +10,7 @@ pub loop-i-preserved : goal.loop-i-preserved
 loop-i-preserved c =
     let us = pressures (contents c.args.stroke.now) in
     let i = c.loop-i.i in
-    let is = c.unwrap-or.ensures ∙ ap (λ o. unwrap_or o 0) c.pressure.ensures ∙ nth_or us i 0 in
+    let is = c.unwrap_or.ensures ∙ ap (λ o. unwrap_or o 0) c.pressure.ensures ∙ nth_or us i 0 in
     (simp length-set c.loop-i.invariant.0, copied_more 0 us i c.loop-i.out _ (omega arith) is c.loop-i.invariant.1)
 
 pub returns : goal.returns

@@ -7,11 +7,11 @@ use Rattle.fixed.specs.Turning.{turned}
 use Rattle.fixed.proofs.Words.{sum_fits, sum_whole, difference_fits, difference_small, difference_whole}
 use Rattle.fixed.proofs.FixedArithmetic.turn.Goals as goal
 
-pub overflow-add-times : goal.overflow-add-times
-overflow-add-times c = search (rules, sum_fits)
+pub overflow_add-times : goal.overflow_add-times
+overflow_add-times c = search (rules, sum_fits)
 
-pub overflow-sub-times : goal.overflow-sub-times
-overflow-sub-times c = search (rules, difference_fits)
+pub overflow_sub-times : goal.overflow_sub-times
+overflow_sub-times c = search (rules, difference_fits)
 
 pub rounded-requires-2 : goal.rounded-requires-2
 rounded-requires-2 c = search (rules, difference_small)
@@ -37,13 +37,13 @@ returns c =
     let sum = sum_whole c.times.result c.times-2.result c.times.ensures.size c.times-2.ensures.size ∙ (λ i. xc i +ℤ ys i) in
     let difference = difference_whole c.times-3.result c.times-4.result c.times-3.ensures.size c.times-4.ensures.size ∙ (λ i. yc i -ℤ xs i) in
     let x =
-    brought _ _ c.rounded.result c.into-range.result sum
-    (record { sfits = c.rounded.type-inv }) c.rounded.ensures.answer
-    (record { sfits = c.into-range.type-inv }) c.into-range.ensures.answer
+    brought _ _ c.rounded.result c.into_range.result sum
+    (record { sfits = c.rounded.type_inv }) c.rounded.ensures.answer
+    (record { sfits = c.into_range.type_inv }) c.into_range.ensures.answer
     in
     let y =
-    brought _ _ c.rounded-2.result c.into-range-2.result difference
-    (record { sfits = c.rounded-2.type-inv }) c.rounded-2.ensures.answer
-    (record { sfits = c.into-range-2.type-inv }) c.into-range-2.ensures.answer
+    brought _ _ c.rounded-2.result c.into_range-2.result difference
+    (record { sfits = c.rounded-2.type_inv }) c.rounded-2.ensures.answer
+    (record { sfits = c.into_range-2.type_inv }) c.into_range-2.ensures.answer
     in
     (λ i. pair (x i) (y i)) ∙ ap (turned c.args.self) c.entry-c.ensures.answer

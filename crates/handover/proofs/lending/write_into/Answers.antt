@@ -6,8 +6,8 @@ use Rattle.handover.specs.Lending.{pairs, stroke_held, lent_stroke, writing}
 use Rattle.handover.proofs.Lent.{writing_refused, nothing_written}
 use Rattle.handover.proofs.lending.write_into.Goals as goal
 
-pub returns-then-n-gt-MOST-SAMPLES : goal.returns-then-n-gt-MOST-SAMPLES
-returns-then-n-gt-MOST-SAMPLES c =
+pub returns-then-n-gt-MOST_SAMPLES : goal.returns-then-n-gt-MOST_SAMPLES
+returns-then-n-gt-MOST_SAMPLES c =
     let path = c.args.path.now in
     let stroke = lent_stroke path c.args.pressure.now in
     let same : length (pairs path) ≡ length path = length-map path _ in
@@ -21,6 +21,6 @@ returns c =
     let whole : length path - 0 ≡ length path = omega arith in
     let samples = ap (λ n. take n c.tuples-samples.result) whole ∙ c.tuples-samples.ensures.answer in
     record {
-      answer = c.write-tuples.ensures.answer ∙ ap (λ p. writing (stroke_held p pressure) (length c.args.out.now)) samples;
-      after = c.write-tuples.ensures.after ∙ ap (λ p. after_writing (stroke_held p pressure) c.args.out.now) samples;
+      answer = c.write_tuples.ensures.answer ∙ ap (λ p. writing (stroke_held p pressure) (length c.args.out.now)) samples;
+      after = c.write_tuples.ensures.after ∙ ap (λ p. after_writing (stroke_held p pressure) c.args.out.now) samples;
     }

@@ -5,25 +5,25 @@ use Rattle.handover.specs.Lending.{pairs, lent_stroke}
 use Rattle.handover.specs.Matching.{too_long}
 use Rattle.handover.proofs.Matching.{long_refused, short_matched}
 use Rattle.handover.proofs.matches.match_strokes.Goals as goal
-use Rattle.handover.proofs.matches.match_strokes.Goals.{then-a-gt-MOST-SAMPLES-via-then-a-gt-MOST-SAMPLES, then-a-gt-MOST-SAMPLES-via-else-a-gt-MOST-SAMPLES+then-b-gt-MOST-SAMPLES, then-a-gt-MOST-SAMPLES-via-else-a-gt-MOST-SAMPLES+else-b-gt-MOST-SAMPLES+then-room-gt-MOST-SAMPLES}
+use Rattle.handover.proofs.matches.match_strokes.Goals.{then-a-gt-MOST_SAMPLES-via-then-a-gt-MOST_SAMPLES, then-a-gt-MOST_SAMPLES-via-else-a-gt-MOST_SAMPLES+then-b-gt-MOST_SAMPLES, then-a-gt-MOST_SAMPLES-via-else-a-gt-MOST_SAMPLES+else-b-gt-MOST_SAMPLES+then-room-gt-MOST_SAMPLES}
 
-pub returns-then-a-gt-MOST-SAMPLES : goal.returns-then-a-gt-MOST-SAMPLES
-returns-then-a-gt-MOST-SAMPLES c =
+pub returns-then-a-gt-MOST_SAMPLES : goal.returns-then-a-gt-MOST_SAMPLES
+returns-then-a-gt-MOST_SAMPLES c =
     let a = c.args.a.now in
     let b = c.args.b.now in
     let out = c.args.out.now in
     let first : length (pairs a) ≡ length a = length-map a _ in
     let second : length (pairs b) ≡ length b = length-map b _ in
-    let long : (most_samples < length (pairs a)) ⊎ ((most_samples < length (pairs b)) ⊎ (most_samples < length out)) = elim c.then-a-gt-MOST-SAMPLES.branch [
-      | then-a-gt-MOST-SAMPLES-via-then-a-gt-MOST-SAMPLES w ↦ inl (omega (arith, w.if-a-gt-MOST-SAMPLES.true))
-      | then-a-gt-MOST-SAMPLES-via-else-a-gt-MOST-SAMPLES+then-b-gt-MOST-SAMPLES w ↦ inr (inl (omega (arith, w.if-b-gt-MOST-SAMPLES.true)))
-      | then-a-gt-MOST-SAMPLES-via-else-a-gt-MOST-SAMPLES+else-b-gt-MOST-SAMPLES+then-room-gt-MOST-SAMPLES w ↦ inr (inr (omega (arith, w.if-room-gt-MOST-SAMPLES.true)))
+    let long : (most_samples < length (pairs a)) ⊎ ((most_samples < length (pairs b)) ⊎ (most_samples < length out)) = elim c.then-a-gt-MOST_SAMPLES.branch [
+      | then-a-gt-MOST_SAMPLES-via-then-a-gt-MOST_SAMPLES w ↦ inl (omega (arith, w.if-a-gt-MOST_SAMPLES.true))
+      | then-a-gt-MOST_SAMPLES-via-else-a-gt-MOST_SAMPLES+then-b-gt-MOST_SAMPLES w ↦ inr (inl (omega (arith, w.if-b-gt-MOST_SAMPLES.true)))
+      | then-a-gt-MOST_SAMPLES-via-else-a-gt-MOST_SAMPLES+else-b-gt-MOST_SAMPLES+then-room-gt-MOST_SAMPLES w ↦ inr (inr (omega (arith, w.if-room-gt-MOST_SAMPLES.true)))
     ] in
-    let is = (λ i. too_long (first i) (sym c.both-pressed.ensures.answer i)) ∙ c.over-long.ensures.answer in
+    let is = (λ i. too_long (first i) (sym c.both_pressed.ensures.answer i)) ∙ c.over_long.ensures.answer in
     record { made = long_refused (lent_stroke a c.args.p.now) (lent_stroke b c.args.q.now) _ out long _ _ is c.settled.ensures.answer }
 
 pub returns : goal.returns
 returns c =
     let first = lent_stroke c.args.a.now c.args.p.now in
     let second = lent_stroke c.args.b.now c.args.q.now in
-    record { made = short_matched first second _ _ c.args.out.now _ _ _ c.match-into.ensures.answer c.match-into.ensures.after c.answered.ensures.answer c.answered.ensures.out }
+    record { made = short_matched first second _ _ c.args.out.now _ _ _ c.match_into.ensures.answer c.match_into.ensures.after c.answered.ensures.answer c.answered.ensures.out }

@@ -12,7 +12,7 @@ loop-i-preserved c =
     let i = c.loop-i.i in
     let out = c.loop-i.out in
     let within : i < length out = omega arith in
-    subst (λ (x : Counts). (k : ℕ) → k < i + 1 → get_or (set out i x) k no_counts ≡ get_or all k no_counts) (sym c.counts-at.ensures.answer)
+    subst (λ (x : Counts). (k : ℕ) → k < i + 1 → get_or (set out i x) k no_counts ≡ get_or all k no_counts) (sym c.counts_at.ensures.answer)
     (fill_by_more (λ k. get_or all k no_counts) out i no_counts within c.loop-i.invariant)
 
 pub returns : goal.returns

@@ -12,7 +12,7 @@ loop-i-preserved c =
     let i = c.loop-i.i in
     let out = c.loop-i.out in
     let within : i < length out = omega arith in
-    let is = c.unwrap-or.ensures ∙ ap (λ o. unwrap_or o 0) c.pressure.ensures ∙ pressure_or all i in
+    let is = c.unwrap_or.ensures ∙ ap (λ o. unwrap_or o 0) c.pressure.ensures ∙ pressure_or all i in
     subst (λ (x : ℕ). (k : ℕ) → k < i + 1 → get_or (set out i x) k 0 ≡ get_or all k 0) (sym is)
     (fill_by_more (λ k. get_or all k 0) out i 0 within c.loop-i.invariant)
 

@@ -2,7 +2,7 @@ use Rattle.std.proofs.Common.{sym, ◌∙◌, rules}
 use Rattle.handover.proofs.Copying.{as_many}
 use Rattle.handover.proofs.reading.pressure_count.Goals as goal
 
-pub returns-then-has-pressure : goal.returns-then-has-pressure
-returns-then-has-pressure c =
+pub returns-then-has_pressure : goal.returns-then-has_pressure
+returns-then-has_pressure c =
     let s = c.args.stroke.now in
-    record { answer = c.len.ensures ∙ as_many s.pressed s.samples.now (sym c.has-pressure.ensures ∙ c.if-has-pressure.true) }
+    record { answer = c.len.ensures ∙ as_many s.pressed s.samples.now (sym c.has_pressure.ensures ∙ c.if-has_pressure.true) }

@@ -8,34 +8,34 @@ use Rattle.crossing.proofs.Fronts.{told, stays, fronted}
 use Rattle.handover.proofs.Files.{unread, too_short, was_read}
 use Rattle.handover.proofs.reading.read_into.Goals as goal
 
-pub returns-in-err-stroke : goal.returns-in-err-stroke
-returns-in-err-stroke c =
+pub returns-in_err-stroke : goal.returns-in_err-stroke
+returns-in_err-stroke c =
     let path = c.args.path.now in
     let pressure = c.args.pressure.now in
-    let is = unread (length path) (length pressure) c.args.bytes.now _ c.in-err-stroke.ensures.answer in
+    let is = unread (length path) (length pressure) c.args.bytes.now _ c.in_err-stroke.ensures.answer in
     record { answer = told heading _ _ is _ c.from-residual.ensures.1; path = stays _ _ (ap (result_map_both path_counts (λ f. f)) is) path; pressure = stays _ _ (ap (result_map_both pressures (λ f. f)) is) pressure }
 
 pub returns-then-path-samples : goal.returns-then-path-samples
 returns-then-path-samples c =
     let path = c.args.path.now in
     let pressure = c.args.pressure.now in
-    let stroke = contents c.in-ok-stroke.stroke in
+    let stroke = contents c.in_ok-stroke.stroke in
     let samples : c.len-samples.result ≡ length stroke.path = c.len-samples.ensures in
-    let many : c.pressure-count-pressures.result ≡ length (pressures stroke) = c.pressure-count-pressures.ensures.answer in
+    let many : c.pressure_count-pressures.result ≡ length (pressures stroke) = c.pressure_count-pressures.ensures.answer in
     let short : (length path < length stroke.path) ⊎ (length pressure < length (pressures stroke)) = ⊎_elim (λ h. inl (omega (arith, h))) (λ h. inr (omega (arith, h.1))) c.then-path-samples.either in
-    let is = too_short (length path) (length pressure) c.args.bytes.now stroke c.in-ok-stroke.ensures.answer short in
+    let is = too_short (length path) (length pressure) c.args.bytes.now stroke c.in_ok-stroke.ensures.answer short in
     record { answer = ap (result_map_both heading (λ f. f)) (sym is); path = stays _ _ (ap (result_map_both path_counts (λ f. f)) is) path; pressure = stays _ _ (ap (result_map_both pressures (λ f. f)) is) pressure }
 
 pub returns : goal.returns
 returns c =
     let path = c.args.path.now in
     let pressure = c.args.pressure.now in
-    let stroke = contents c.in-ok-stroke.stroke in
+    let stroke = contents c.in_ok-stroke.stroke in
     let samples : c.len-samples.result ≡ length stroke.path = c.len-samples.ensures in
-    let many : c.pressure-count-pressures.result ≡ length (pressures stroke) = c.pressure-count-pressures.ensures.answer in
-    let is = was_read (length path) (length pressure) c.args.bytes.now stroke c.in-ok-stroke.ensures.answer (omega arith) (omega arith) in
+    let many : c.pressure_count-pressures.result ≡ length (pressures stroke) = c.pressure_count-pressures.ensures.answer in
+    let is = was_read (length path) (length pressure) c.args.bytes.now stroke c.in_ok-stroke.ensures.answer (omega arith) (omega arith) in
     record {
       answer = (λ i. Ok (record { samples = samples i; pressures = many i })) ∙ ap (result_map_both heading (λ f. f)) (sym is);
-      path = fronted _ (path_counts stroke) (ap (result_map_both path_counts (λ f. f)) is) _ (samples ∙ sym (length-map stroke.path counts)) _ path c.copy-path.ensures.after;
-      pressure = fronted _ (pressures stroke) (ap (result_map_both pressures (λ f. f)) is) _ many _ pressure c.copy-pressures.ensures.after;
+      path = fronted _ (path_counts stroke) (ap (result_map_both path_counts (λ f. f)) is) _ (samples ∙ sym (length-map stroke.path counts)) _ path c.copy_path.ensures.after;
+      pressure = fronted _ (pressures stroke) (ap (result_map_both pressures (λ f. f)) is) _ many _ pressure c.copy_pressures.ensures.after;
     }

@@ -3,8 +3,8 @@ use Rattle.writing.specs.Lending.{held}
 use Rattle.matching.proofs.Granting.{fit, answered, best_lags}
 use Rattle.matching.proofs.matched.best_lags.Goals as goal
 
-pub match-paths-lag-requires : goal.match-paths-lag-requires
-match-paths-lag-requires c =
+pub match_paths-lag-requires : goal.match_paths-lag-requires
+match_paths-lag-requires c =
     let f = fit (held c.args.a.now) (held c.args.b.now) _ c.requires.granted in
     record {
       paired = record { lag_below = f.first.some; same = f.same; few = f.first.most };
@@ -12,8 +12,8 @@ match-paths-lag-requires c =
       whole = f.whole;
     }
 
-pub pressure-lag-pressure-requires : goal.pressure-lag-pressure-requires
-pressure-lag-pressure-requires c =
+pub pressure_lag-pressure-requires : goal.pressure_lag-pressure-requires
+pressure_lag-pressure-requires c =
     let f = fit (held c.args.a.now) (held c.args.b.now) _ c.requires.granted in
     record { sound = (f.first, f.second); same = f.same }
 
@@ -22,10 +22,10 @@ returns c =
     let a = held c.args.a.now in
     let b = held c.args.b.now in
     let all = c.requires.granted in
-    let lag = c.match-paths-lag.ensures.answer in
-    let pressure = c.pressure-lag-pressure.ensures.answer in
+    let lag = c.match_paths-lag.ensures.answer in
+    let pressure = c.pressure_lag-pressure.ensures.answer in
     record {
       answer = answered a b _ all _ _ lag pressure;
-      after = c.match-paths-lag.ensures.after;
+      after = c.match_paths-lag.ensures.after;
       best = best_lags a b (fit a b _ all).first _ _ lag pressure;
     }

@@ -9,8 +9,8 @@ use Rattle.matching.proofs.paths.every_sum.Goals.{then-beats, else-beats}
 pub loop-lag-init : goal.loop-lag-init
 loop-lag-init c = filled_none (read_sum c.args.a.now c.args.b.now) c.args.out.now
 
-pub offset-bounds-out-best : goal.offset-bounds-out-best
-offset-bounds-out-best c = let low = best_at (read_sum c.args.a.now c.args.b.now) c.loop-lag.lag c.loop-lag.out c.loop-lag.best c.loop-lag.invariant in omega arith
+pub offset_bounds-out-best : goal.offset_bounds-out-best
+offset_bounds-out-best c = let low = best_at (read_sum c.args.a.now c.args.b.now) c.loop-lag.lag c.loop-lag.out c.loop-lag.best c.loop-lag.invariant in omega arith
 
 pub bounds-out-best : goal.bounds-out-best
 bounds-out-best c = let low = best_at (read_sum c.args.a.now c.args.b.now) c.loop-lag.lag c.loop-lag.out c.loop-lag.best c.loop-lag.invariant in simp length-set (omega arith)
@@ -19,15 +19,15 @@ pub loop-lag-preserved : goal.loop-lag-preserved
 unfolding read_sum
 loop-lag-preserved c =
     let f = read_sum c.args.a.now c.args.b.now in
-    let next : c.signed-parts.result ≡ f c.loop-lag.lag = c.signed-parts.ensures.answer ∙ ap signed_parts c.lagged-sum.ensures.answer in
+    let next : c.signed_parts.result ≡ f c.loop-lag.lag = c.signed_parts.ensures.answer ∙ ap signed_parts c.lagged_sum.ensures.answer in
     let room : c.loop-lag.lag < length c.loop-lag.out = omega arith in
     let larger = c.beats.ensures.answer in
     let fits = read_sum_fits c.args.a.now c.args.b.now in
     elim c.if-beats.branch [
       | then-beats w ↦ rw w.best-is
-          (filled_takes f fits c.loop-lag.lag c.loop-lag.out c.loop-lag.best c.loop-lag.invariant c.signed-parts.result next room (sym larger ∙ w.if-beats.true))
+          (filled_takes f fits c.loop-lag.lag c.loop-lag.out c.loop-lag.best c.loop-lag.invariant c.signed_parts.result next room (sym larger ∙ w.if-beats.true))
       | else-beats w ↦ rw w.best-is
-          (filled_keeps f fits c.loop-lag.lag c.loop-lag.out c.loop-lag.best c.loop-lag.invariant c.signed-parts.result next room (sym larger ∙ w.if-beats.false))
+          (filled_keeps f fits c.loop-lag.lag c.loop-lag.out c.loop-lag.best c.loop-lag.invariant c.signed_parts.result next room (sym larger ∙ w.if-beats.false))
     ]
 
 pub returns : goal.returns

@@ -14,8 +14,8 @@ returns c =
     let left : take n c.conjugates-xs.result ≡ entered_conj a = ap (λ k. take k c.conjugates-xs.result) whole ∙ c.conjugates-xs.ensures.answer in
     let right : take n c.elements-ys.result ≡ entered b = ap (λ k. take k c.elements-ys.result) same ∙ c.elements-ys.ensures.answer in
     record {
-      answer = c.every-sum.ensures.answer
+      answer = c.every_sum.ensures.answer
           ∙ best_match a b c.requires.paired.same c.requires.paired.few c.requires.near.0 c.requires.near.1 _ _ some left right;
-      after = c.every-sum.ensures.after
+      after = c.every_sum.ensures.after
           ∙ all_matches a b c.requires.paired.same c.requires.paired.few c.requires.near.0 c.requires.near.1 _ _ some left right;
     }

@@ -14,5 +14,5 @@ returns c =
     let left : take n c.elements-xs.result ≡ entered_pressures p = ap (λ k. take k c.elements-xs.result) whole ∙ c.elements-xs.ensures.answer in
     let right : take n c.elements-ys.result ≡ entered_pressures q = ap (λ k. take k c.elements-ys.result) same ∙ c.elements-ys.ensures.answer in
     record {
-      answer = c.best-lag.ensures.answer ∙ best_pressure p q c.requires.paired.same c.requires.paired.few c.requires.low.0 c.requires.low.1 _ _ some left right;
+      answer = c.best_lag.ensures.answer ∙ best_pressure p q c.requires.paired.same c.requires.paired.few c.requires.low.0 c.requires.low.1 _ _ some left right;
     }

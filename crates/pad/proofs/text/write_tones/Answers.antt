@@ -11,7 +11,7 @@ loop-k-preserved c =
     let tones = c.args.tones.now in
     let next : tone_lines k (drop k tones) ≡ tone_line k (get_or tones k origin) ++ tone_lines (k + 1) (drop (k + 1) tones) =
     at_drop_more (tone_lines k) tones k origin c.loop-k-test.true in
-    line_written (string_bytes c.loop-k.text) _ _ _ _ c.in-ok-write-tone.ensures.after (ap (λ x. string_bytes c.loop-k.text ++ x) (sym next) ∙ c.loop-k.invariant)
+    line_written (string_bytes c.loop-k.text) _ _ _ _ c.in_ok-write_tone.ensures.after (ap (λ x. string_bytes c.loop-k.text ++ x) (sym next) ∙ c.loop-k.invariant)
 
 pub returns : goal.returns
 returns c =

@@ -10,6 +10,6 @@ returns c =
     same_words c.first.ensures.answer c.second.ensures.answer
     ∙ ap (λ x. times x c.low-b.result) c.high-a.ensures.answer
     ∙ ap (times _) c.low-b.ensures.answer
-    ∙ ap (λ x. times (power (step * (x / step))) (power (x % step))) c.within-span-e.ensures.answer
+    ∙ ap (λ x. times (power (step * (x / step))) (power (x % step))) c.within_span-e.ensures.answer
     ∙ power_of_two_levels c.args.e in
     record { answer = answer; size = reduced c.args.e answer }

@@ -4,8 +4,8 @@ use Rattle.plan.specs.Planned.{product}
 use Rattle.plan.proofs.Scans.{product_more, product_stop}
 use Rattle.plan.proofs.checked.product.Goals as goal
 
-pub returns-then-len-gt-LARGEST-SIZE : goal.returns-then-len-gt-LARGEST-SIZE
-returns-then-len-gt-LARGEST-SIZE c =
+pub returns-then-len-gt-LARGEST_SIZE : goal.returns-then-len-gt-LARGEST_SIZE
+returns-then-len-gt-LARGEST_SIZE c =
     record { answer = sym (c.loop-i.invariant.0 ∙ product_stop c.args.radices.now c.loop-i.i c.loop-i-test.true c.loop-i.len (omega arith)) }
 
 pub loop-i-preserved : goal.loop-i-preserved

@@ -3,18 +3,18 @@ use Rattle.std.proofs.lemmas.List.{at_drop_all}
 use Rattle.plan.specs.Planned.{ranged}
 use Rattle.plan.proofs.Scans.{ranged_more, ranged_stop}
 use Rattle.plan.proofs.checked.ranged.Goals as goal
-use Rattle.plan.proofs.checked.ranged.Goals.{then-r-lt-LEAST-RADIX-via-then-r-lt-LEAST-RADIX, then-r-lt-LEAST-RADIX-via-else-r-lt-LEAST-RADIX+then-r-gt-LARGEST-RADIX}
+use Rattle.plan.proofs.checked.ranged.Goals.{then-r-lt-LEAST_RADIX-via-then-r-lt-LEAST_RADIX, then-r-lt-LEAST_RADIX-via-else-r-lt-LEAST_RADIX+then-r-gt-LARGEST_RADIX}
 
-pub returns-then-r-lt-LEAST-RADIX : goal.returns-then-r-lt-LEAST-RADIX
-returns-then-r-lt-LEAST-RADIX c =
+pub returns-then-r-lt-LEAST_RADIX : goal.returns-then-r-lt-LEAST_RADIX
+returns-then-r-lt-LEAST_RADIX c =
     let stop = ranged_stop c.args.radices.now c.loop-i.i c.loop-i-test.true in
     record {
       answer =
           sym
           (c.loop-i.invariant
-          ∙ elim c.then-r-lt-LEAST-RADIX.branch [
-            | then-r-lt-LEAST-RADIX-via-then-r-lt-LEAST-RADIX w ↦ stop (inl (omega arith))
-            | then-r-lt-LEAST-RADIX-via-else-r-lt-LEAST-RADIX+then-r-gt-LARGEST-RADIX w ↦ stop (inr (omega arith))
+          ∙ elim c.then-r-lt-LEAST_RADIX.branch [
+            | then-r-lt-LEAST_RADIX-via-then-r-lt-LEAST_RADIX w ↦ stop (inl (omega arith))
+            | then-r-lt-LEAST_RADIX-via-else-r-lt-LEAST_RADIX+then-r-gt-LARGEST_RADIX w ↦ stop (inr (omega arith))
           ]);
     }
 

@@ -8,14 +8,14 @@ pub loop-i-init : goal.loop-i-init
 loop-i-init g c =
     let m = g.X.Arithmetic.meaning in
     let rs = c.args.radices.now in
-    let run = c.in-ok-run.run' in
-    let dealing = c.in-ok-run.ensures.answer in
+    let run = c.in_ok-run.run' in
+    let dealing = c.in_ok-run.ensures.answer in
     let granted = suited_granted m.span rs (length c.args.buf.now) (length c.args.work.now) (seen run) (fresh rs) dealing in
     let is = suited_as m.span rs (length c.args.buf.now) (length c.args.work.now) (seen run) (fresh rs) dealing in (
       polled_none m rs run _ is,
       suited_kept _ _ granted c.deal.auto.buf c.deal.auto.work,
       c.min-count.ensures ∙ ap (min c.args.polls) (c.left.ensures.answer ∙ ap (λ s. s.left) is),
-      c.in-ok-run.ensures.work ∙ ap (λ n. replicate n m.zero) (sym c.deal.auto.work),
+      c.in_ok-run.ensures.work ∙ ap (λ n. replicate n m.zero) (sym c.deal.auto.work),
     )
 
 pub unreachable-requires : goal.unreachable-requires
@@ -47,6 +47,6 @@ returns g c =
     let granted = suited_kept (length c.args.buf.now) (length c.args.work.now) inv.1 (sym (c.loop-i.auto.buf ∙ c.deal.auto.buf)) (sym (c.loop-i.auto.work ∙ c.deal.auto.work)) in
     record {
       answer = ap Ok (polled_seen m inv.0 polls times) ∙ suited_answers m.span rs _ _ (polled_run rs polls) granted;
-      after = polled_blocks m inv.0 c.args.buf.now granted.whole c.in-ok-run.ensures.after;
+      after = polled_blocks m inv.0 c.args.buf.now granted.whole c.in_ok-run.ensures.after;
       work = inv.3 ∙ ap (λ n. replicate n m.zero) c.deal.auto.work;
     }

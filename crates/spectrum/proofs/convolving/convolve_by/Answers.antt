@@ -20,15 +20,15 @@ returns g c =
     let law = full_laws g.met.X.Arithmetic.lawful c.requires.full in
     let agree = all_plans_agree law.exactly rs in
     let z : Divides (length a) m.span = rw c.requires.first c.requires.divides in
-    let front = c.copy-from-slice.new.self in
-    let work = c.tones-into.new.scratch in
+    let front = c.copy_from_slice.new.self in
+    let work = c.tones_into.new.scratch in
     let held = front ++ post_of 0 (n - 0) work in
-    let written = c.tones-into-2.new.scratch in
-    let long : length front ≡ n = ap length c.copy-from-slice.ensures.after ∙ c.tones-into.auto.out ∙ c.requires.out ∙ sym c.len-n.ensures.answer in
-    let waiting : take (n - 0) (put_mid n (length held - n) held written) ≡ tones m rs b = waits n work front long (length held - n) written ∙ c.copy-from-slice.ensures.after ∙ c.tones-into.ensures.after in
+    let written = c.tones_into-2.new.scratch in
+    let long : length front ≡ n = ap length c.copy_from_slice.ensures.after ∙ c.tones_into.auto.out ∙ c.requires.out ∙ sym c.len-n.ensures.answer in
+    let waiting : take (n - 0) (put_mid n (length held - n) held written) ≡ tones m rs b = waits n work front long (length held - n) written ∙ c.copy_from_slice.ensures.after ∙ c.tones_into.ensures.after in
     let product : c.multiply.new.tones ≡ spectra_product m (tones m rs a) (tones m rs b) =
-    c.multiply.ensures.after ∙ ap (spectra_product m c.tones-into-2.new.out) waiting
-    ∙ ap (λ x. spectra_product m x (tones m rs b)) c.tones-into-2.ensures.after in
+    c.multiply.ensures.after ∙ ap (spectra_product m c.tones_into-2.new.out) waiting
+    ∙ ap (λ x. spectra_product m x (tones m rs b)) c.tones_into-2.ensures.after in
     let room : n ≤ length work = omega arith in
     let z-b : Divides (length b) m.span = rw c.requires.second c.requires.divides in
     let many : length b ≡ length a = c.requires.second ∙ sym c.requires.first in
@@ -40,5 +40,5 @@ returns g c =
       spectra = ap (spectrum m) convolved
           ∙ sym (product_is_convolution law a b (spectrum m a) (spectrum m b) z many (spectrum_is_tones law.exactly a z) (spectrum_is_tones law.exactly b z-b));
       work = c.restore.ensures.work
-          ∙ ap (λ x. replicate x m.zero) (same_len_mid n (length held - n) held written c.tones-into-2.auto.scratch ∙ waiting_length n work front long room ∙ c.tones-into.auto.scratch);
+          ∙ ap (λ x. replicate x m.zero) (same_len_mid n (length held - n) held written c.tones_into-2.auto.scratch ∙ waiting_length n work front long room ∙ c.tones_into.auto.scratch);
     }

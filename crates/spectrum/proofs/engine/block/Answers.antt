@@ -3,8 +3,8 @@ use Rattle.spectrum.proofs.Columns.{columns_more, columns_all}
 use Rattle.spectra.proofs.Blocks.{block_turns_fit}
 use Rattle.spectrum.proofs.engine.block.Goals as goal
 
-pub overflow-add-turns : goal.overflow-add-turns
-overflow-add-turns g c = omega (arith, block_turns_fit c.loop-j.j c.args.shape.len c.args.shape.radix c.loop-j-test.true c.requires.shape.few c.requires.shape.size)
+pub overflow_add-turns : goal.overflow_add-turns
+overflow_add-turns g c = omega (arith, block_turns_fit c.loop-j.j c.args.shape.len c.args.shape.radix c.loop-j-test.true c.requires.shape.few c.requires.shape.size)
 
 pub loop-j-preserved : goal.loop-j-preserved
 loop-j-preserved g c =

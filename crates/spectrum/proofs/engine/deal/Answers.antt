@@ -6,7 +6,7 @@ use Rattle.spectrum.proofs.engine.deal.Goals as goal
 
 pub returns : goal.returns
 returns g c =
-    let copied = c.copy-from-slice.ensures.after in
+    let copied = c.copy_from_slice.ensures.after in
     record {
       after = c.scatter.ensures.after
           ∙ ap (dealt g.X.Arithmetic.meaning.zero (radices_of c.args.plan.now)) (take_at _ _ _ (ap length copied ∙ omega arith) ∙ copied);

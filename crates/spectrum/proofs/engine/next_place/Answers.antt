@@ -2,13 +2,13 @@ use Rattle.std.proofs.Common.{◌≡◌, ◌+◌, ◌/◌, get_or, sym, ap, ◌�
 use Rattle.spectra.proofs.Dealing.{next, next_place, block_le, counts_up, carries_on, carried_out}
 use Rattle.spectrum.proofs.engine.next_place.Goals as goal
 
-pub overflow-add-at : goal.overflow-add-at
-overflow-add-at c =
+pub overflow_add-at : goal.overflow_add-at
+overflow_add-at c =
     let less = div-le_self c.loop-r.block (get_or c.args.radices.now c.loop-r.r-index 0) in
     omega (arith, block_le c.requires.each c.loop-r.invariant)
 
-pub overflow-add-result : goal.overflow-add-result
-overflow-add-result c = omega (arith, block_le c.requires.each c.loop-r.invariant)
+pub overflow_add-result : goal.overflow_add-result
+overflow_add-result c = omega (arith, block_le c.requires.each c.loop-r.invariant)
 
 pub returns-then-at-part : goal.returns-then-at-part
 returns-then-at-part c = record {

@@ -4,8 +4,8 @@ use Rattle.spectra.proofs.Rows.{part_fits}
 use Rattle.spectrum.proofs.Sums.{step_within, next_within, summed_one, summed_more, summed_all}
 use Rattle.spectrum.proofs.engine.output.Goals as goal
 
-pub overflow-add-at : goal.overflow-add-at
-overflow-add-at g c = let fits = part_fits _ _ c.requires.cell.shape.some c.requires.cell.shape.size in omega arith
+pub overflow_add-at : goal.overflow_add-at
+overflow_add-at g c = let fits = part_fits _ _ c.requires.cell.shape.some c.requires.cell.shape.size in omega arith
 
 pub loop-q-init : goal.loop-q-init
 loop-q-init g c =
@@ -13,16 +13,16 @@ loop-q-init g c =
     let read = get_or_read _ c.args.j c.index-block-j.result room c.index-block-j.is g.X.Arithmetic.meaning.zero in
     (refl, summed_one g.X.Arithmetic.meaning c.requires.cell _ _ _ c.place.ensures.answer c.turn-sum.ensures read)
 
-pub offset-bounds-block-at : goal.offset-bounds-block-at
-offset-bounds-block-at g c =
+pub offset_bounds-block-at : goal.offset_bounds-block-at
+offset_bounds-block-at g c =
     let within = next_within g.X.Arithmetic.meaning c.requires.cell c.loop-q.invariant.1 c.loop-q-test.true in omega arith
 
 pub bounds-block-at : goal.bounds-block-at
 bounds-block-at g c =
     let within = next_within g.X.Arithmetic.meaning c.requires.cell c.loop-q.invariant.1 c.loop-q-test.true in omega arith
 
-pub overflow-add-at-in-loop-q : goal.overflow-add-at-in-loop-q
-overflow-add-at-in-loop-q g c =
+pub overflow_add-at-in-loop-q : goal.overflow_add-at-in-loop-q
+overflow_add-at-in-loop-q g c =
     let within = next_within g.X.Arithmetic.meaning c.requires.cell c.loop-q.invariant.1 c.loop-q-test.true in
     let fits = part_fits _ _ c.requires.cell.shape.some c.requires.cell.shape.size in
     omega arith

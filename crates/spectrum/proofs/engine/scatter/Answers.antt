@@ -13,8 +13,8 @@ loop-x-init g c =
     let rs = radices_of c.args.plan.now in
     (sym (place_zero rs), omega (arith, size_positive rs c.args.plan.now.each), λ k h. absurd (omega arith))
 
-pub next-place-at-requires : goal.next-place-at-requires
-next-place-at-requires g c = record {
+pub next_place-at-requires : goal.next_place-at-requires
+next_place-at-requires g c = record {
   each = c.radices-radices.ensures.plan.each;
   whole = c.len-n.ensures.answer ∙ ap size (sym c.radices-radices.ensures.answer);
   within = (c.loop-x.invariant.1, omega (arith, c.args.plan.now.small));
@@ -26,8 +26,8 @@ loop-x-preserved g c =
     let same = c.radices-radices.ensures.answer in
     let i = c.loop-x.x-index in
     let read = get_or_read c.args.samples.now i c.x-item.result c.loop-x-test.true c.x-item.is g.X.Arithmetic.meaning.zero in (
-      c.next-place-at.ensures.answer i (c.loop-x.invariant.0 ∙ ap (λ x. place x i) (sym same)) ∙ ap (λ x. place x (i + 1)) same,
-      c.next-place-at.ensures.within,
+      c.next_place-at.ensures.answer i (c.loop-x.invariant.0 ∙ ap (λ x. place x i) (sym same)) ∙ ap (λ x. place x (i + 1)) same,
+      c.next_place-at.ensures.within,
       dealt_more _ rs (size_positive rs c.args.plan.now.each) _ _ i _ _ (omega arith) (c.loop-x.auto.out ∙ c.requires.out) c.loop-x.invariant.0 read c.loop-x.invariant.2,
     )
 

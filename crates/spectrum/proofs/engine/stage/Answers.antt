@@ -5,14 +5,14 @@ use Rattle.spectra.proofs.Recursion.{combine_length}
 use Rattle.spectra.proofs.Blocks.{block_within, blocks_end, stage_turns_fit, blocks_more, blocks_all}
 use Rattle.spectrum.proofs.engine.stage.Goals as goal
 
-pub offset-bounds-buf-from : goal.offset-bounds-buf-from
-offset-bounds-buf-from g c = let within = block_within _ _ _ _ c.loop-b-test.true c.loop-b.invariant.1.start c.requires.whole in search rules
+pub offset_bounds-buf-from : goal.offset_bounds-buf-from
+offset_bounds-buf-from g c = let within = block_within _ _ _ _ c.loop-b-test.true c.loop-b.invariant.1.start c.requires.whole in search rules
 
-pub slice-bounds-block-end : goal.slice-bounds-block-end
-slice-bounds-block-end g c = let within = block_within _ _ _ _ c.loop-b-test.true c.loop-b.invariant.1.start c.requires.whole in search rules
+pub slice_bounds-block-end : goal.slice_bounds-block-end
+slice_bounds-block-end g c = let within = block_within _ _ _ _ c.loop-b-test.true c.loop-b.invariant.1.start c.requires.whole in search rules
 
-pub overflow-add-turns : goal.overflow-add-turns
-overflow-add-turns g c =
+pub overflow_add-turns : goal.overflow_add-turns
+overflow_add-turns g c =
     let within = block_within _ _ _ _ c.loop-b-test.true c.loop-b.invariant.1.start c.requires.whole in
     omega (arith, stage_turns_fit _ _ c.args.radix _ within c.requires.fits c.requires.shape.few)
 

@@ -26,13 +26,13 @@ stage-made-requires g c =
       scratch = omega arith;
     }
 
-pub overflow-add-made : goal.overflow-add-made
-overflow-add-made g c =
+pub overflow_add-made : goal.overflow_add-made
+overflow_add-made g c =
     let within : c.loop-i.i ≤ length c.radices-radices.result.now = omega arith in
     omega (arith, turns_fit g.X.Arithmetic.meaning c.radices-radices.ensures.plan c.loop-i.invariant c.loop-i-test.true within c.loop-i.auto.buf _ c.stage-made.ensures.turns (c.requires.whole ∙ ap size (sym c.radices-radices.ensures.answer)))
 
-pub overflow-mul-len : goal.overflow-mul-len
-overflow-mul-len g c =
+pub overflow_mul-len : goal.overflow_mul-len
+overflow_mul-len g c =
     let within : c.loop-i.i ≤ length c.radices-radices.result.now = omega arith in
     omega (arith, block_small c.radices-radices.ensures.plan _ _ c.loop-i-test.true within c.loop-i.invariant.parts)
 

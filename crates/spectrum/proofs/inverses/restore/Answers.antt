@@ -24,8 +24,8 @@ returns g c =
     ∙ stages_dealt m rs (size_positive rs c.args.plan.now.each) buf c.requires.whole in
     let many : length c.mirror.new.buf ≡ size rs =
     c.mirror.auto.buf ∙ c.stages.auto.buf ∙ c.deal.auto.buf ∙ c.requires.whole in
-    let inverted : c.part-each.new.buf ≡ inverse m buf =
-    c.part-each.ensures.after
+    let inverted : c.part_each.new.buf ≡ inverse m buf =
+    c.part_each.ensures.after
     ∙ ap (λ n. map (λ x. m.part x n) c.mirror.new.buf) many
     ∙ ap (map (λ x. m.part x (size rs))) (c.mirror.ensures.after ∙ ap (mirrored m.zero) toned)
     ∙ inverse_by_tones law.exactly rs buf c.requires.divides c.requires.whole in

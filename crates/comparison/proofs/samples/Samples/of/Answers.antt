@@ -5,6 +5,6 @@ use Rattle.comparison.proofs.samples.Samples.of.Goals as goal
 pub returns : goal.returns
 returns c =
     record {
-      answer = contents_is (contents c.args.stroke.now) c.requires.sound _ _ _ _ c.len.ensures c.has-pressure.ensures c.path-of.ensures.answer c.pressures-of.ensures.answer;
+      answer = contents_is (contents c.args.stroke.now) c.requires.sound _ _ _ _ c.len.ensures c.has_pressure.ensures c.path_of.ensures.answer c.pressures_of.ensures.answer;
       count = c.len.ensures;
     }

@@ -11,12 +11,12 @@ loop-r-init c = placing_none c.radices-r-items.result.now c.args.n
 pub loop-r-preserved : goal.loop-r-preserved
 loop-r-preserved c = placing_more _ _ _ _ _ c.loop-r-test.true c.loop-r.invariant
 
-pub overflow-mul-at : goal.overflow-mul-at
-overflow-mul-at c =
+pub overflow_mul-at : goal.overflow_mul-at
+overflow_mul-at c =
     omega (arith, placing_within _ _ _ _ _ c.loop-r-test.true c.radices-r-items.ensures.plan c.loop-r.invariant)
 
-pub overflow-add-at : goal.overflow-add-at
-overflow-add-at c =
+pub overflow_add-at : goal.overflow_add-at
+overflow_add-at c =
     omega (arith, placing_within _ _ _ _ _ c.loop-r-test.true c.radices-r-items.ensures.plan c.loop-r.invariant)
 
 pub returns : goal.returns

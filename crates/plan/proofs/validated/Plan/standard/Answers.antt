@@ -14,18 +14,18 @@ pub loop-r-init : goal.loop-r-init
 loop-r-init c =
     subst (λ rs. Taking c.args.n 0 rs c.args.n) (sym c.empty-plan.ensures.answer) (taking_none c.args.n)
 
-pub nonzero-rem-left : goal.nonzero-rem-left
-nonzero-rem-left c = let radix = standard_each c.loop-r.r-index c.loop-r-test.true in omega arith
+pub nonzero_rem-left : goal.nonzero_rem-left
+nonzero_rem-left c = let radix = standard_each c.loop-r.r-index c.loop-r-test.true in omega arith
 
 pub with-plan-requires : goal.with-plan-requires
 with-plan-requires c =
     record {
       radix = standard_each c.loop-r.r-index c.loop-r-test.true;
-      small = taken_fits _ _ _ _ c.loop-left.invariant (get_or standard_radices c.loop-r.r-index 0) (omega arith) c.if-n-gt-LARGEST-SIZE.false c.loop-left-test.true;
+      small = taken_fits _ _ _ _ c.loop-left.invariant (get_or standard_radices c.loop-r.r-index 0) (omega arith) c.if-n-gt-LARGEST_SIZE.false c.loop-left-test.true;
     }
 
-pub nonzero-div-left : goal.nonzero-div-left
-nonzero-div-left c = let radix = standard_each c.loop-r.r-index c.loop-r-test.true in omega arith
+pub nonzero_div-left : goal.nonzero_div-left
+nonzero_div-left c = let radix = standard_each c.loop-r.r-index c.loop-r-test.true in omega arith
 
 pub loop-left-smaller : goal.loop-left-smaller
 loop-left-smaller c =
@@ -46,11 +46,11 @@ pub returns-then-left-gt1 : goal.returns-then-left-gt1
 returns-then-left-gt1 c =
     let n = c.args.n in
     let none = taking_fails _ _ _ _ c.loop-r.invariant c.loop-r-test.false c.if-left-gt1.true in
-    record { answer = sym (standard_inside n (omega arith) c.if-n-gt-LARGEST-SIZE.false ∙ ap (λ o. ok_or o (Length n)) none) }
+    record { answer = sym (standard_inside n (omega arith) c.if-n-gt-LARGEST_SIZE.false ∙ ap (λ o. ok_or o (Length n)) none) }
 
 pub returns : goal.returns
 returns c =
     let n = c.args.n in
     let some = some_left _ _ _ _ c.loop-r.invariant (omega arith) in
     let all = taking_all _ _ _ _ c.loop-r.invariant c.loop-r-test.false (omega arith) in
-    record { answer = sym (standard_inside n (omega arith) c.if-n-gt-LARGEST-SIZE.false ∙ ap (λ o. ok_or o (Length n)) all) }
+    record { answer = sym (standard_inside n (omega arith) c.if-n-gt-LARGEST_SIZE.false ∙ ap (λ o. ok_or o (Length n)) all) }

@@ -3,8 +3,8 @@ use Rattle.plan.specs.Radices.{size, turns}
 use Rattle.plan.proofs.Sizes.{radix_sum_more, radix_sum_le, turns_all, turns_le}
 use Rattle.plan.proofs.validated.Plan.turns.Goals as goal
 
-pub overflow-add-sum : goal.overflow-add-sum
-overflow-add-sum c =
+pub overflow_add-sum : goal.overflow_add-sum
+overflow_add-sum c =
     let rs = c.radices-r-items.result.now in
     let plan = c.radices-r-items.ensures.plan in
     let next = radix_sum_more rs c.loop-r.r-index c.loop-r.sum c.loop-r-test.true c.loop-r.invariant in
@@ -21,8 +21,8 @@ made : (c : goal.After-len) → c.len.result * c.loop-r.sum ≡ turns c.radices-
 made c =
     turns_all c.radices-r-items.result.now c.loop-r.r-index c.loop-r.sum c.len.result c.loop-r-test.false c.loop-r.invariant (c.len.ensures.answer ∙ ap size (sym c.radices-r-items.ensures.answer))
 
-pub overflow-mul-result : goal.overflow-mul-result
-overflow-mul-result c = omega (arith, made c, turns_le c.radices-r-items.result.now c.radices-r-items.ensures.plan)
+pub overflow_mul-result : goal.overflow_mul-result
+overflow_mul-result c = omega (arith, made c, turns_le c.radices-r-items.result.now c.radices-r-items.ensures.plan)
 
 pub returns : goal.returns
 returns c = record { answer = made c ∙ ap turns c.radices-r-items.ensures.answer }

@@ -7,15 +7,15 @@ use Rattle.plan.proofs.validated.Plan.with.Goals as goal
 pub bounds-radices-self : goal.bounds-radices-self
 bounds-radices-self c = count_below c.args.self c.args.radix (omega arith) c.requires.radix.0 c.requires.small
 
-pub invariant-of-result : goal.invariant-of-result
-invariant-of-result c =
+pub invariant_of-result : goal.invariant_of-result
+invariant_of-result c =
     let p = c.args.self in
     let r = c.args.radix in
     let pushed = sym (radices_push p r (omega arith) c.requires.radix.0 c.requires.small) in
     let room = count_below p r (omega arith) c.requires.radix.0 c.requires.small in
     let each = each_push (radices_of p) r p.each c.requires.radix.0 c.requires.radix.1 in
     let whole = len_push p r (omega arith) c.requires.radix.0 c.requires.small in
-    (omega arith, (subst Each pushed each, (whole ∙ ap size pushed, (len_small p r (omega arith) c.requires.radix.0 c.requires.small, tt))))
+    record { few = omega arith; each = subst Each pushed each; whole = whole ∙ ap size pushed; small = len_small p r (omega arith) c.requires.radix.0 c.requires.small }
 
 pub returns : goal.returns
 returns c =

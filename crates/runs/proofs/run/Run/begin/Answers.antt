@@ -4,8 +4,8 @@ use Rattle.plan.specs.Radices.{size, radix_sum, Each}
 use Rattle.runs.specs.Packed.{unpacked}
 use Rattle.runs.proofs.run.Run.begin.Goals as goal
 
-pub invariant-of-result : goal.invariant-of-result
-invariant-of-result c =
+pub invariant_of-result : goal.invariant_of-result
+invariant_of-result c =
     let rs = c.radices-radices.result.now in
     let plan = c.radices-radices.ensures.plan in
     let n = c.len.result in

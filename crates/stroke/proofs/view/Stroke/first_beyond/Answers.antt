@@ -13,7 +13,7 @@ returns-in-Some c =
 
 pub loop-i-preserved : goal.loop-i-preserved
 loop-i-preserved c =
-    passed_more (contents c.args.self.now) c.loop-i.i (omega arith) c.loop-i.invariant c.in-default.ensures
+    passed_more (contents c.args.self.now) c.loop-i.i (omega arith) c.loop-i.invariant c.in_default.ensures
 
 pub returns : goal.returns
 returns c =
