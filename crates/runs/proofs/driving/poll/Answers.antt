@@ -43,7 +43,7 @@ returns g c =
     let rs = c.args.radices.now in
     let polls = c.args.polls in
     let inv = c.loop-i.invariant in
-    let times : c.loop-i.-i ≡ min polls (length rs) = omega (arith, inv.2) in
+    let times : c.loop-i._i ≡ min polls (length rs) = omega (arith, inv.2) in
     let granted = suited_kept (length c.args.buf.now) (length c.args.work.now) inv.1 (sym (c.loop-i.auto.buf ∙ c.deal.auto.buf)) (sym (c.loop-i.auto.work ∙ c.deal.auto.work)) in
     record {
       answer = ap Ok (polled_seen m inv.0 polls times) ∙ suited_answers m.span rs _ _ (polled_run rs polls) granted;

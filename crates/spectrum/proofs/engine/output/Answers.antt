@@ -45,7 +45,7 @@ loop-q-preserved g c =
 
 pub returns : goal.returns
 returns g c =
-    let end : c.loop-q.-q ≡ c.args.shape.radix = omega arith in
+    let end : c.loop-q._q ≡ c.args.shape.radix = omega arith in
     record {
       after = ap (set c.args.scratch.now c.args.i) (summed_all g.X.Arithmetic.meaning c.requires.cell c.loop-q.invariant.1 end);
       turns = omega arith;

@@ -4,5 +4,5 @@ use Rattle.spectrum.proofs.engine.output.Given as goal
 
 abbrev pub invariant-loop-q : goal.invariant-loop-q
 invariant-loop-q g l =
-    (l.turns ≡ l.-q)
-    × Summed g.X.Arithmetic.meaning l.shape l.block l.i l.j l.-q l.sum l.at l.e
+    (l.turns ≡ l._q)
+    × Summed g.X.Arithmetic.meaning l.shape l.block l.i l.j l._q l.sum l.at l.e

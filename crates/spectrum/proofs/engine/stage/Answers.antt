@@ -1,4 +1,5 @@
 use Rattle.std.proofs.Common.{◌≡◌, ◌+◌, ◌-◌, ◌*◌, ◌/◌, ◌≤◌, length, ap, ◌∙◌, arith, rules}
+use borrow.Author.Rules.{scaled_fits≤}
 use Rattle.spectra.specs.Tones.{combine}
 use Rattle.spectra.specs.Stages.{staged}
 use Rattle.spectra.proofs.Recursion.{combine_length}
@@ -6,7 +7,10 @@ use Rattle.spectra.proofs.Blocks.{block_within, blocks_end, stage_turns_fit, blo
 use Rattle.spectrum.proofs.engine.stage.Goals as goal
 
 pub offset_bounds-buf-from : goal.offset_bounds-buf-from
-offset_bounds-buf-from g c = let within = block_within _ _ _ _ c.loop-b-test.true c.loop-b.invariant.1.start c.requires.whole in search rules
+offset_bounds-buf-from g c =
+    let within = block_within _ _ _ _ c.loop-b-test.true c.loop-b.invariant.1.start c.requires.whole in
+    let reached : c.loop-b.from ≤ length c.args.buf.now = omega arith in
+    search (rules, scaled_fits≤)
 
 pub slice_bounds-block-end : goal.slice_bounds-block-end
 slice_bounds-block-end g c = let within = block_within _ _ _ _ c.loop-b-test.true c.loop-b.invariant.1.start c.requires.whole in search rules
@@ -35,7 +39,7 @@ unfolding staged
 returns g c =
     let a = c.args in
     let n = a.radix * a.len in
-    let end : c.loop-b.-b ≡ length a.buf.now / n = omega arith in
+    let end : c.loop-b._b ≡ length a.buf.now / n = omega arith in
     record {
       after = blocks_all (combine g.X.Arithmetic.meaning a.radix a.len) n (length a.buf.now / n) c.loop-b.invariant.1 end;
       turns = c.loop-b.invariant.0 ∙ ap (λ x. x * a.radix) (blocks_end _ _ _ _ end c.loop-b.invariant.1.start c.requires.whole);

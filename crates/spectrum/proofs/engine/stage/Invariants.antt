@@ -7,4 +7,4 @@ abbrev pub invariant-loop-b : goal.invariant-loop-b
 invariant-loop-b g l =
     let n = l.radix * l.len in
     (l.turns ≡ l.from * l.radix)
-    × Blocks (combine g.X.Arithmetic.meaning l.radix l.len) n (length l.initial.buf / n) l.-b l.from l.initial.buf l.buf
+    × Blocks (combine g.X.Arithmetic.meaning l.radix l.len) n (length l.initial.buf / n) l._b l.from l.initial.buf l.buf
