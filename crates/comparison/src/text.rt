@@ -3,17 +3,16 @@ ghost use Rattle.std.specs.Prelude.{◌≡◌, ◌++◌, IfOk, string_bytes, OnO
 ghost use Rattle.comparison.specs.Printed.{path_lines, pressure_line, printed};
 
 use crate::files::Comparison;
-use std::alloc::Global;
-use std::fmt;
+use std::alloc::{AllocError, Global};
 
-fn write_path(text: &mut String, lag: usize, sum: (i64, i64)) -> fmt::Result
+fn write_path(text: &mut String, lag: usize, sum: (i64, i64)) -> Result<(), AllocError>
     ensures after { OnOk result (string_bytes text.new ≡ string_bytes text.old ++ path_lines lag sum) }
 {
     let (x, y) = sum;
     writeln!(text, "lag {lag}\nsum {x} {y}")
 }
 
-fn write_pressure(text: &mut String, pressure: Option<usize>) -> fmt::Result
+fn write_pressure(text: &mut String, pressure: Option<usize>) -> Result<(), AllocError>
     ensures after { OnOk result (string_bytes text.new ≡ string_bytes text.old ++ pressure_line pressure) }
 {
     match pressure {
@@ -23,7 +22,7 @@ fn write_pressure(text: &mut String, pressure: Option<usize>) -> fmt::Result
 }
 
 // The lines that are printed of a comparison.
-pub fn comparison_text(heap: Global, comparison: Comparison) -> Result<String, fmt::Error>
+pub fn comparison_text(heap: Global, comparison: Comparison) -> Result<String, AllocError>
     ensures answer { IfOk result (λ text. string_bytes text ≡ printed comparison) }
 {
     let mut text = String::new(heap);

@@ -3,7 +3,7 @@ use Rattle.std.proofs.Common.{◌≡◌, ℕ, ◌+◌, ◌-◌, ◌≤◌, List,
 use Rattle.std.proofs.lemmas.List.{length-append, take_at}
 use Rattle.std.specs.Result.{result_map_both}
 use Rattle.std.specs.declared.alloc.Global.{Global}
-use Rattle.std.specs.declared.fmt.Error.{Error}
+use Rattle.std.specs.declared.alloc.AllocError.{AllocError}
 use Rattle.fixed.specs.declared.Fixed.{Fixed}
 use Rattle.refusal.specs.declared.Fault.{Fault}
 use Rattle.pad.specs.declared.files.Summary.{Summary}
@@ -31,7 +31,7 @@ module _ (sum : Summary) (before after : List Fixed) where
   text_reported (Err f) text is front written = let z : ◌≡◌ {A = ℕ} 0 1 = cc in absurd (omega arith)
 
 -- want of memory for the text says nothing of the file
-pub text_failed : (s : Result Spectrum Fault) (r : Result (String Global) Failure) (e : Error) → IsErrAnd r (λ f. f ≡ Text e) → Reports s r
+pub text_failed : (s : Result Spectrum Fault) (r : Result (String Global) Failure) (e : AllocError) → IsErrAnd r (λ f. f ≡ Text e) → Reports s r
 text_failed s (Ok text) e by = absurd by
 text_failed s (Err (Refused f)) e by = let z : ◌≡◌ {A = ℕ} 0 1 = cc in absurd (omega arith)
 text_failed s (Err (Text _)) e by = tt

@@ -8,8 +8,7 @@ use crate::text::spectrum_text;
 use fixed::Fixed;
 use refusal::Fault;
 use spectrum::SCRATCH;
-use std::alloc::Global;
-use std::fmt;
+use std::alloc::{AllocError, Global};
 use stroke::MOST_SAMPLES;
 
 // What the transform of the longest stroke works in.
@@ -21,7 +20,7 @@ const NOTHING: Fixed = Fixed { x: 0, y: 0 };
 #[derive(Clone, Copy, Drop)]
 pub enum Failure {
     Refused(Fault),
-    Text(fmt::Error),
+    Text(AllocError),
 }
 
 impl From<Fault> for Failure {
@@ -32,10 +31,10 @@ impl From<Fault> for Failure {
     }
 }
 
-impl From<fmt::Error> for Failure {
+impl From<AllocError> for Failure {
     ghost from_gives = { λ e r. r ≡ OfText e };
 
-    fn from(e: fmt::Error) -> Failure {
+    fn from(e: AllocError) -> Failure {
         Failure::Text(e)
     }
 }

@@ -4,16 +4,15 @@ ghost use Rattle.pad.specs.Printed.{heading, tone_line, tone_lines, printed, pri
 
 use fixed::Fixed;
 use refusal::Fault;
-use std::alloc::Global;
-use std::fmt;
+use std::alloc::{AllocError, Global};
 
-fn write_heading(text: &mut String, count: usize, turns: usize) -> fmt::Result
+fn write_heading(text: &mut String, count: usize, turns: usize) -> Result<(), AllocError>
     ensures after { OnOk result (string_bytes text.new ≡ string_bytes text.old ++ heading count turns) }
 {
     writeln!(text, "tones {count} turns {turns}")
 }
 
-fn write_tone(text: &mut String, k: usize, tone: Fixed) -> fmt::Result
+fn write_tone(text: &mut String, k: usize, tone: Fixed) -> Result<(), AllocError>
     ensures after { OnOk result (string_bytes text.new ≡ string_bytes text.old ++ tone_line k tone) }
 {
     let x = tone.x;
@@ -21,7 +20,7 @@ fn write_tone(text: &mut String, k: usize, tone: Fixed) -> fmt::Result
     writeln!(text, "{k} {x} {y}")
 }
 
-fn write_tones(text: &mut String, tones: &[Fixed]) -> fmt::Result
+fn write_tones(text: &mut String, tones: &[Fixed]) -> Result<(), AllocError>
     ensures after { OnOk result (string_bytes text.new ≡ string_bytes text.old ++ tone_lines 0 tones.now) }
 {
     for (k, tone) in tones.iter().enumerate() {
@@ -31,7 +30,7 @@ fn write_tones(text: &mut String, tones: &[Fixed]) -> fmt::Result
 }
 
 // The lines that are printed of a spectrum.
-pub fn spectrum_text(heap: Global, turns: usize, tones: &[Fixed]) -> Result<String, fmt::Error>
+pub fn spectrum_text(heap: Global, turns: usize, tones: &[Fixed]) -> Result<String, AllocError>
     ensures answer { IfOk result (λ text. string_bytes text ≡ printed turns tones.now) }
 {
     let mut text = String::new(heap);
@@ -41,7 +40,7 @@ pub fn spectrum_text(heap: Global, turns: usize, tones: &[Fixed]) -> Result<Stri
 }
 
 // The line that is printed of a refusal.
-pub fn refusal_text(heap: Global, fault: Fault) -> Result<String, fmt::Error>
+pub fn refusal_text(heap: Global, fault: Fault) -> Result<String, AllocError>
     ensures answer { IfOk result (λ text. string_bytes text ≡ printed_refusal fault) }
 {
     let number = fault.number();

@@ -5,12 +5,12 @@ use Rattle.comparison.proofs.files.compare_files.Goals as goal
 pub returns-in_err-a : goal.returns-in_err-a
 returns-in_err-a c =
     let is = first_unread c.args.first.now c.args.second.now _ c.in_err-a.ensures.answer in
-    record { answer = told _ _ _ is c.from-residual.ensures.1; best = IfOk-from_err _ _ c.from-residual.ensures.0 }
+    record { answer = told _ _ _ is c.from_residual.ensures.1; best = IfOk-from_err _ _ c.from_residual.ensures.0 }
 
 pub returns-in_err-b : goal.returns-in_err-b
 returns-in_err-b c =
     let is = second_unread c.args.first.now c.args.second.now _ c.in_ok-a.ensures.answer _ c.in_err-b.ensures.answer in
-    record { answer = told _ _ _ is c.from-residual-in_err-b.ensures.1; best = IfOk-from_err _ _ c.from-residual-in_err-b.ensures.0 }
+    record { answer = told _ _ _ is c.from_residual-in_err-b.ensures.1; best = IfOk-from_err _ _ c.from_residual-in_err-b.ensures.0 }
 
 pub returns : goal.returns
 returns c =

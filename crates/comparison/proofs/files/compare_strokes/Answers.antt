@@ -11,7 +11,7 @@ returns-in_err-found c =
     let right = c.lent-2.ensures.answer ∙ c.of-second.ensures.answer in
     let whole = part_whole a c.requires.sound.0 _ _ c.of-first.ensures.count refl in
     let is = refused a (contents c.args.b.now) _ _ _ left right whole _ c.in_err-found.ensures.answer in
-    record { answer = told _ _ _ is c.from-residual.ensures.1; best = IfOk-from_err _ _ c.from-residual.ensures.0 }
+    record { answer = told _ _ _ is c.from_residual.ensures.1; best = IfOk-from_err _ _ c.from_residual.ensures.0 }
 
 pub returns : goal.returns
 returns c =

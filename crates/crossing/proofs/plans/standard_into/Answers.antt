@@ -9,7 +9,7 @@ pub returns-in_err-plan : goal.returns-in_err-plan
 returns-in_err-plan c =
     let radices = c.args.radices.now in
     let is = unplanned (length radices) c.args.n _ c.in_err-plan.ensures.answer in
-    record { answer = told length _ _ is _ c.from-residual.ensures.1; after = stays _ _ is radices }
+    record { answer = told length _ _ is _ c.from_residual.ensures.1; after = stays _ _ is radices }
 
 pub returns-then-radices-count : goal.returns-then-radices-count
 returns-then-radices-count c =

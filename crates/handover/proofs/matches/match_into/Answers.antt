@@ -17,7 +17,7 @@ returns-in_err-found c =
     let first = ap (λ n. take n c.tuples-first.result) first-whole ∙ c.tuples-first.ensures.answer in
     let second = ap (λ n. take n c.tuples-second.result) second-whole ∙ c.tuples-second.ensures.answer in
     let is = sym (c.in_err-found.ensures.answer ∙ (λ i. matched (stroke_held (first i) c.args.p.now) (stroke_held (second i) c.args.q.now) (sym c.requires.room i))) in
-    let same = told lags _ _ is _ c.from-residual.ensures.1 in
+    let same = told lags _ _ is _ c.from_residual.ensures.1 in
     record { answer = same; after = ap (λ r. where_granted r (map sum (matches (pairs a) (pairs b))) c.args.out.now) (sym (same ∙ ap (result_map_both lags (λ f. f)) is)) }
 
 pub returns : goal.returns

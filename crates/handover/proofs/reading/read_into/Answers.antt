@@ -13,7 +13,7 @@ returns-in_err-stroke c =
     let path = c.args.path.now in
     let pressure = c.args.pressure.now in
     let is = unread (length path) (length pressure) c.args.bytes.now _ c.in_err-stroke.ensures.answer in
-    record { answer = told heading _ _ is _ c.from-residual.ensures.1; path = stays _ _ (ap (result_map_both path_counts (λ f. f)) is) path; pressure = stays _ _ (ap (result_map_both pressures (λ f. f)) is) pressure }
+    record { answer = told heading _ _ is _ c.from_residual.ensures.1; path = stays _ _ (ap (result_map_both path_counts (λ f. f)) is) path; pressure = stays _ _ (ap (result_map_both pressures (λ f. f)) is) pressure }
 
 pub returns-then-path-samples : goal.returns-then-path-samples
 returns-then-path-samples c =

@@ -14,12 +14,12 @@ loop-lag-init c =
 pub loop-lag-preserved : goal.loop-lag-preserved
 loop-lag-preserved c =
     let f = read_pressures c.args.a.now c.args.b.now in
-    let here = pressure_read c.args.a.now c.args.b.now c.loop-lag.lag _ _ c.lagged_sum-in-loop-lag.ensures.answer c.read_sum.ensures in
+    let here = pressure_read c.args.a.now c.args.b.now c.loop-lag.lag _ _ c.lagged_sum-in-loop-lag.ensures.answer c.read-sum.ensures in
     elim c.if-sum-most.branch [
       | then-sum-most w ↦ rw (w.best-is, w.most-is)
-          (largest_takes f c.loop-lag.lag c.loop-lag.best c.loop-lag.most c.read_sum.result c.loop-lag.invariant here w.if-sum-most.true)
+          (largest_takes f c.loop-lag.lag c.loop-lag.best c.loop-lag.most c.read-sum.result c.loop-lag.invariant here w.if-sum-most.true)
       | else-sum-most w ↦ rw (w.best-is, w.most-is)
-          (largest_keeps f c.loop-lag.lag c.loop-lag.best c.loop-lag.most c.read_sum.result c.loop-lag.invariant here w.if-sum-most.false)
+          (largest_keeps f c.loop-lag.lag c.loop-lag.best c.loop-lag.most c.read-sum.result c.loop-lag.invariant here w.if-sum-most.false)
     ]
 
 pub returns : goal.returns

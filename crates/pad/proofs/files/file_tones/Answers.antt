@@ -12,7 +12,7 @@ returns-in_err-stroke c =
     let tones = c.args.tones.now in
     let work = c.args.work.now in
     let is = unread (length tones) (length work) c.args.bytes.now _ c.in_err-stroke.ensures.answer in
-    record { answer = told _ _ is _ c.from-residual.ensures.1; after = tones_stay _ _ is tones; work = work_stays _ _ is work }
+    record { answer = told _ _ is _ c.from_residual.ensures.1; after = tones_stay _ _ is tones; work = work_stays _ _ is work }
 
 pub returns-in_err-plan : goal.returns-in_err-plan
 returns-in_err-plan c =
@@ -20,7 +20,7 @@ returns-in_err-plan c =
     let work = c.args.work.now in
     let none = c.in_err-plan.ensures.answer ∙ ap standard c.len.ensures in
     let is = unplanned (length tones) (length work) c.args.bytes.now (contents c.in_ok-stroke.stroke) c.in_ok-stroke.ensures.answer _ none in
-    record { answer = told _ _ is _ c.from-residual-in_err-plan.ensures.1; after = tones_stay _ _ is tones; work = work_stays _ _ is work }
+    record { answer = told _ _ is _ c.from_residual-in_err-plan.ensures.1; after = tones_stay _ _ is tones; work = work_stays _ _ is work }
 
 pub returns-in_err-granted : goal.returns-in_err-granted
 returns-in_err-granted c =
@@ -31,7 +31,7 @@ returns-in_err-granted c =
     let plan = c.in_ok-plan.ensures.answer ∙ ap standard c.len.ensures in
     let refused = c.in_err-granted.ensures.answer ∙ granting c.len-count.ensures.answer part (length work) in
     let is = ungranted (length tones) (length work) c.args.bytes.now (contents c.in_ok-stroke.stroke) c.in_ok-stroke.ensures.answer rs plan _ refused in
-    record { answer = told _ _ is _ c.from-residual-in_err-granted.ensures.1; after = tones_stay _ _ is tones; work = work_stays _ _ is work }
+    record { answer = told _ _ is _ c.from_residual-in_err-granted.ensures.1; after = tones_stay _ _ is tones; work = work_stays _ _ is work }
 
 pub slice_bounds-fill-end : goal.slice_bounds-fill-end
 slice_bounds-fill-end c =

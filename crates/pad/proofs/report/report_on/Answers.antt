@@ -10,7 +10,7 @@ slice_bounds-spectrum_text-end c =
     search rules
 
 pub returns-in_err-text : goal.returns-in_err-text
-returns-in_err-text c = record { answer = text_failed _ _ _ c.from-residual-in_err-text.ensures.1 }
+returns-in_err-text c = record { answer = text_failed _ _ _ c.from_residual-in_err-text.ensures.1 }
 
 pub returns : goal.returns
 returns c =

@@ -12,10 +12,13 @@ invariant_of-result c =
     let same : rs ≡ unpacked (length rs) c.packed.result = sym c.packed.ensures.answer in
     let whole : n ≡ size rs = c.len.ensures.answer ∙ ap size (sym c.radices-radices.ensures.answer) in
     let none : [] ≡ drop (length rs) (unpacked (length rs) c.packed.result) =
-    sym (drop_all (length rs) rs (omega arith)) ∙ ap (drop (length rs)) same in (
-      plan.few,
-      (
-        subst Each same plan.each,
-        (whole ∙ ap size same, (omega (arith, plan.small), (omega arith, (ap size none, (sym (mul-zero n) ∙ ap (λ x. n * radix_sum x) none, tt))))),
-      ),
-    )
+    sym (drop_all (length rs) rs (omega arith)) ∙ ap (drop (length rs)) same in
+    record {
+      few = plan.few;
+      each = subst Each same plan.each;
+      whole = whole ∙ ap size same;
+      small = omega (arith, plan.small);
+      stages = omega arith;
+      parts = ap size none;
+      turned = sym (mul-zero n) ∙ ap (λ x. n * radix_sum x) none;
+    }

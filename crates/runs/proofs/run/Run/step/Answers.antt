@@ -21,4 +21,12 @@ invariant_of-self c =
     let low = c.requires.left in
     let part = ap (λ r. run.part * r) c.requires.radix ∙ parts_more run low in
     let made : c.args.made ≡ run.len * next_radix run = c.requires.turns ∙ ap (λ r. run.len * r) c.requires.radix in
-    (run.few, (run.each, (run.whole, (run.small, (omega (arith, run.stages), (part, (ap (λ t. run.turns + t) made ∙ turns_more run low, tt)))))))
+    record {
+      few = run.few;
+      each = run.each;
+      whole = run.whole;
+      small = run.small;
+      stages = omega (arith, run.stages);
+      parts = part;
+      turned = ap (λ t. run.turns + t) made ∙ turns_more run low;
+    }
