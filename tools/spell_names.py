@@ -15,8 +15,25 @@ import sys
 TOKEN = re.compile(r"[^\s:(){}.,;«»`]+")
 DECLARED = re.compile(r"^\s*(?:(?:pub|abbrev|unfoldable|record|data) )*([^\s:(){}.,;«»]+)(?: \([^)]*\)| \{[^}]*\})* :(?: (.*))?$")
 USE = re.compile(r"^\s*(?:ghost )?(?:pub )?use ([^{\s]+)\.\{([^}]*)\}")
-# an alias that is written as a type is, and names a word
-AS_WORDS = {"Laid-on": "laid_on"}
+# Names with a capital inside, of whatever file: an alias that is written as a type is and names a word, the lemmas on two
+# words of the library, and two words whose snake case would fall together with the words of crate refusal on all layers.
+AS_WORDS = {
+    "Laid-on": "laid_on",
+    "natAbs_neg": "nat_abs_neg",
+    "natAbs_add": "nat_abs_add",
+    "natAbs_sum": "nat_abs_sum",
+    "natAbs_mul_add": "nat_abs_mul_add",
+    "natAbs-neg": "nat_abs_neg",
+    "natAbs-add": "nat_abs_add",
+    "natAbs-sum": "nat_abs_sum",
+    "natAbs-mul-add": "nat_abs_mul_add",
+    "getD_nth": "get_or_nth",
+    "getD-nth": "get_or_nth",
+    "getD_map_of": "get_or_map_of",
+    "getD-map-of": "get_or_map_of",
+    "numberOf": "file_number",
+    "placeOf": "file_place",
+}
 
 
 def read(path):
@@ -85,7 +102,7 @@ def main():
     lines = [line for line in read("crates.txt").split("\n") if line.strip() and not line.startswith("#")]
     crates = [line.split(":")[0].split()[0] for line in lines]
     seen = collect(antt + rust, crates)
-    names = {n for n in seen if dashed(n)}
+    names = {n for n in seen if dashed(n)} | set(AS_WORDS)
     for n in sorted(names):
         both = seen[n] & seen.get(turned(n), set())
         if both:

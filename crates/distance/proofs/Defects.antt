@@ -2,7 +2,7 @@
 use Rattle.std.proofs.Common.{◌≡◌, ℕ, ◌+◌, ◌<◌, ◌≤◌, Bool, T, leb, List, [], ◌∷◌, ℤ, pos, ◌+ℤ◌, ◌-ℤ◌, ◌*ℤ◌, neg_ℤ, nat_abs, sym, ap, ◌∙◌, subst, add_comm, arith, leb→le}
 use lib.IntN.{*ℤ_comm}
 use Rattle.algebra.proofs.Ranges.{both, both_first, both_second, below, below_at}
-use Rattle.algebra.proofs.Sizes.{natAbs_neg}
+use Rattle.algebra.proofs.Sizes.{nat_abs_neg}
 use Rattle.algebra.proofs.Ring.{num, var, ◌⊕◌, ◌⊖◌, ◌⊗◌, opp, ring}
 use Rattle.quarter.specs.Entries.{S, quarter, entry, onward}
 use Rattle.quarter.specs.Table.{quarter_table}
@@ -62,7 +62,7 @@ module _ (p q r : ℤ × ℤ) where
 
   onward_close : Close p q r → Close (onward p) q (onward r)
   onward_close h =
-      let c = ap nat_abs c_onward ∙ natAbs_neg (defect_s p q r) in
+      let c = ap nat_abs c_onward ∙ nat_abs_neg (defect_s p q r) in
       let s = ap nat_abs s_onward in
       record { c = omega arith; s = omega arith }
 

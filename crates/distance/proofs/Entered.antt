@@ -11,7 +11,7 @@ use Rattle.fixed.specs.Pairs.{sampled, units, entered}
 use Rattle.stroke.specs.Contents.{Near as WithinLimits}
 use Rattle.distance.specs.Sums.{point, direction, turned_x, turned_y, sum_x, sum_y}
 use Rattle.distance.specs.Checked.{kept}
-use Rattle.distance.proofs.Lists.{getD_map_of}
+use Rattle.distance.proofs.Lists.{get_or_map_of}
 use Rattle.distance.proofs.Quarters.{entry_same}
 use Rattle.distance.proofs.Steps.{steps_round, step_is}
 use Rattle.distance.proofs.Totals.{total_same, total_scaled}
@@ -48,7 +48,7 @@ kept_entered (p ∷ path) h = λ i. kept_same (sampled p.0 p.1) (modest_fits (sa
 -- ---- the tones, along the directions 0 and a quarter
 
 point_entered : (path : List (ℤ × ℤ)) (t : ℕ) → sample (entered path) t ≡ sampled (point path t).0 (point path t).1
-point_entered path t = getD_map_of (λ p. sampled p.0 p.1) (pos 0, pos 0) path t
+point_entered path t = get_or_map_of (λ p. sampled p.0 p.1) (pos 0, pos 0) path t
 
 along_direction : (p d : ℤ × ℤ) → along d (sampled p.0 p.1) ≡ units *ℤ turned_x p d
 along_direction p d =

@@ -3,7 +3,7 @@ use Rattle.std.proofs.Common.{◌≡◌, ℕ, ◌+◌, ◌*◌, ◌/◌, ◌%◌
 use Rattle.std.specs.List.{range_with_len}
 use Rattle.std.proofs.lemmas.Nat.{mul-le}
 use Rattle.std.proofs.lemmas.List.FromFn.{get_or-map-range_with_len}
-use Rattle.algebra.proofs.Sizes.{natAbs_mul_add}
+use Rattle.algebra.proofs.Sizes.{nat_abs_mul_add}
 use Rattle.quarter.specs.Entries.{S, circle, entry}
 use Rattle.fixed.specs.declared.Fixed.{Fixed}
 use Rattle.fixed.specs.Pairs.{origin}
@@ -63,5 +63,5 @@ modest_along a e modest =
     let short = entry_short e in
     let x = mul-le (nat_abs a.x) (nat_abs (entry e).0) most S modest.x short.c in
     let y = mul-le (nat_abs a.y) (nat_abs (entry e).1) most S modest.y short.s in
-    let all = natAbs_mul_add a.x (entry e).0 a.y (entry e).1 in
+    let all = nat_abs_mul_add a.x (entry e).0 a.y (entry e).1 in
     omega arith

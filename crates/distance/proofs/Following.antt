@@ -11,7 +11,7 @@ use Rattle.plan.specs.Radices.{size}
 use Rattle.plan.specs.Dealing.{every}
 use Rattle.spectra.specs.Tones.{term, tone, combine, tones}
 use Rattle.distance.specs.Checked.{whole_sum, whole_turn}
-use Rattle.distance.proofs.Lists.{getD_map_of, joined_map}
+use Rattle.distance.proofs.Lists.{get_or_map_of, joined_map}
 use Rattle.distance.proofs.Whole.{whole, Fits}
 use Rattle.distance.proofs.Exactly.{sample, Modest, part_modest}
 use Rattle.distance.proofs.Plans.{Round, round_rest, block_of, Stays, tones_stay}
@@ -25,7 +25,7 @@ pub record Follows {A R : Type 0} (m : Meaning A R) (into : Fixed → A) : Type 
 
 module _ {A R : Type 0} (m : Meaning A R) (into : Fixed → A) (follows : Follows m into) where
   at_into : (a : List Fixed) (t : ℕ) → get_or (map into a) t m.zero ≡ into (sample a t)
-  at_into a t = ap (get_or (map into a) t) follows.zero_is ∙ getD_map_of into origin a t
+  at_into a t = ap (get_or (map into a) t) follows.zero_is ∙ get_or_map_of into origin a t
 
   every_into : (r len : ℕ) (a : List Fixed) (q : ℕ) → every m.zero r len (map into a) q ≡ map into (every origin r len a q)
   every_into r len a q =

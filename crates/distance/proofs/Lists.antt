@@ -9,10 +9,10 @@ map_at P f d each none [] t = none
 map_at P f d each none (x ∷ xs) zero = each x
 map_at P f d each none (x ∷ xs) (suc t) = map_at P f d each none xs t
 
-pub getD_map_of : {A B : Type 0} (f : A → B) (d : A) (xs : List A) (t : ℕ) → get_or (map f xs) t (f d) ≡ f (get_or xs t d)
-getD_map_of f d [] t = refl
-getD_map_of f d (x ∷ xs) zero = refl
-getD_map_of f d (x ∷ xs) (suc t) = getD_map_of f d xs t
+pub get_or_map_of : {A B : Type 0} (f : A → B) (d : A) (xs : List A) (t : ℕ) → get_or (map f xs) t (f d) ≡ f (get_or xs t d)
+get_or_map_of f d [] t = refl
+get_or_map_of f d (x ∷ xs) zero = refl
+get_or_map_of f d (x ∷ xs) (suc t) = get_or_map_of f d xs t
 
 pub joined_map : {X A B : Type 0} (f : A → B) (g : X → List A) (qs : List X) → flat_map (λ q. map f (g q)) qs ≡ map f (flat_map g qs)
 joined_map f g [] = refl

@@ -1,6 +1,6 @@
 -- From the first quarter of the table to all of it.
 use Rattle.std.proofs.Common.{◌≡◌, ℕ, zero, suc, ◌+◌, ◌*◌, ◌/◌, ◌%◌, ◌<◌, get_or, ℤ, pos, sym, ap, ◌∙◌, subst, arith}
-use Rattle.algebra.proofs.Sizes.{natAbs_neg}
+use Rattle.algebra.proofs.Sizes.{nat_abs_neg}
 use Rattle.quarter.specs.Entries.{circle, quarter, entry, onward, quarters_onward, Short}
 use Rattle.quarter.specs.Table.{quarter_table}
 use Rattle.quarter.proofs.Sizes.{table_short}
@@ -20,7 +20,7 @@ by_quarters P first further e = subst P whole (quarters_on (e / quarter))
         subst P same (further (e % quarter + quarter * n) (quarters_on n))
 
 short_onward : (d : ℤ × ℤ) → Short d → Short (onward d)
-short_onward d h = let same = natAbs_neg d.1 in let long = h.s in record { c = omega arith; s = h.c }
+short_onward d h = let same = nat_abs_neg d.1 in let long = h.s in record { c = omega arith; s = h.c }
 
 within_first : (e : ℕ) → e < quarter → entry e ≡ get_or quarter_table e (pos 0, pos 0)
 within_first e h =

@@ -2,7 +2,7 @@
 use Rattle.std.proofs.Common.{◌≡◌, ℕ, zero, suc, ◌+◌, ◌*◌, ◌<◌, ◌≤◌, ℤ, pos, ◌+ℤ◌, ◌*ℤ◌, nat_abs, sym, refl, ap, ◌∙◌, add-zero, add-suc, add_comm, mul-zero, mul-suc, arith}
 use lib.IntN.{*ℤ-zero}
 use Rattle.algebra.proofs.Integers.{linear, mul_add}
-use Rattle.algebra.proofs.Sizes.{natAbs_add}
+use Rattle.algebra.proofs.Sizes.{nat_abs_add}
 use Rattle.distance.specs.Sums.{total}
 
 pub total_same : (f g : ℕ → ℤ) (n : ℕ) → ((t : ℕ) → t < n → f t ≡ g t) → total f n ≡ total g n
@@ -48,5 +48,5 @@ total_size f b zero h = omega arith
 total_size f b (suc n) h =
     let before = total_size f b n (λ t l. h t (omega arith)) in
     let last = h n (omega arith) in
-    let sum = natAbs_add (total f n) (f n) in
+    let sum = nat_abs_add (total f n) (f n) in
     omega arith

@@ -3,7 +3,7 @@ use Rattle.std.proofs.Common.{◌≡◌, ℕ, ◌+◌, ◌*◌, ◌/◌, ◌≤�
 use borrow.Author.Differences.{product_is}
 use Rattle.std.proofs.lemmas.Nat.{mul-le}
 use Rattle.std.proofs.lemmas.Int.{ints}
-use Rattle.algebra.proofs.Sizes.{nat_abs_mul, natAbs_add, natAbs_mul_add}
+use Rattle.algebra.proofs.Sizes.{nat_abs_mul, nat_abs_add, nat_abs_mul_add}
 use Rattle.algebra.proofs.Ring.{num, var, ◌⊕◌, ◌⊖◌, ◌⊗◌, ring}
 use Rattle.quarter.specs.Entries.{S, Short}
 use Rattle.fixed.specs.declared.Fixed.{Fixed}
@@ -57,8 +57,8 @@ turned_along a b p q r turned close short =
     let defects = a.x *ℤ defect_c p q r +ℤ a.y *ℤ defect_s p q r in
     let rests = i *ℤ p.0 +ℤ j *ℤ p.1 in
     let all = sym (nat_abs_mul (pos S) (along p b -ℤ along r a)) ∙ ap nat_abs (parted a b p q r) in
-    let sum = natAbs_add defects rests in
-    let of_defects = natAbs_mul_add a.x (defect_c p q r) a.y (defect_s p q r) in
-    let of_rests = natAbs_mul_add i p.0 j p.1 in
+    let sum = nat_abs_add defects rests in
+    let of_defects = nat_abs_mul_add a.x (defect_c p q r) a.y (defect_s p q r) in
+    let of_rests = nat_abs_mul_add i p.0 j p.1 in
     together (S * nat_abs (along p b -ℤ along r a)) (nat_abs a.x) (nat_abs a.y) (nat_abs (defect_c p q r)) (nat_abs (defect_s p q r)) (nat_abs i) (nat_abs j) (nat_abs p.0) (nat_abs p.1)
     (omega arith) close.c close.s (rest_small _ b.x turned.first) (rest_small _ b.y turned.second) short.c short.s

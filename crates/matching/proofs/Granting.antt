@@ -44,9 +44,25 @@ module _ (a b : Contents) (room : ℕ) (all : Ok tt ≡ granted a b room) where
         whole = grind (arith, nat_tests);
       }
 
+  granted_parts : (Ok tt ≡ spans a b) × ((Ok tt ≡ lengths a b room) × (Ok tt ≡ limits a b))
+  granted_parts =
+      let rest = and_both (spans a b) _ tt all in
+      (rest.0, and_both (lengths a b room) _ tt rest.1)
+
   pub answered : (lag : ℕ) (pressure : Option ℕ) → lag ≡ best_first (match_at a.path b.path) (length a.path)
       → pressure ≡ pressure_lag a.pressure b.pressure → Ok (record { lag = lag; pressure = pressure }) ≡ matched a b room
-  answered lag pressure lag_is pressure_is = rw (sym all, lag_is, pressure_is)
+  answered lag pressure lag_is pressure_is =
+      let parts = granted_parts in rw (sym parts.0, sym parts.1.0, sym parts.1.1, lag_is, pressure_is) refl
+
+-- what is refused is refused by the first of the three that refuses
+and_and : {T E : Type 0} (r s t : Result (Unit {0}) E) (x : Result T E)
+    → result_and (result_and r (result_and s t)) x ≡ result_and r (result_and s (result_and t x))
+and_and (Ok u) (Ok v) t x = refl
+and_and (Ok u) (Err f) t x = refl
+and_and (Err f) s t x = refl
+
+pub refused : (a b : Contents) (room : ℕ) (f : Fault) → Err f ≡ granted a b room → Err f ≡ matched a b room
+refused a b room f none = ap (λ r. result_and r _) none ∙ and_and (spans a b) (lengths a b room) (limits a b) _
 
 -- ---- both lags are best
 pressure_best : (o u : Option (List ℕ)) (n : ℕ) → 0 < n → IfSome o (λ us. (length us ≡ n) × All (λ u. u ≤ limit) us)

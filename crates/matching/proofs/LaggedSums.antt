@@ -40,10 +40,8 @@ module _ {A R : Type 0} (m : Meaning A R) (a b : List A) (lag : ℕ) where
       let on : t + lag + 1 ≡ t + 1 + lag = omega arith in
       (rw here (mod-lt (t + lag) some), ap (λ k. (k + 1) % length a) here ∙ mod-add-mod (t + lag) (length a) 1 ∙ ap (λ k. k % length a) on)
 
-  pub summed_one : (x : A) → lag < length a → x ≡ product_at m a b 0 lag → Summed 1 x
-  summed_one x below first =
-      let none : 0 + lag ≡ lag = omega arith in
-      first ∙ ap (product_at m a b 0) (sym (ap (λ k. k % length a) none ∙ mod-eq_of_lt below)) ∙ sym (series_one m (lag_term m a b lag))
+  pub summed_one : (x : A) → x ≡ lag_term m a b lag 0 → Summed 1 x
+  summed_one x first = first ∙ sym (series_one m (lag_term m a b lag))
 
   pub summed_more : (t at next : ℕ) (sum x y : A) → 0 < t → Reached t at → next ≡ next_place (length a) at → Summed t sum
       → x ≡ product_at m a b t next → y ≡ m.sum sum x → Summed (t + 1) y

@@ -6,7 +6,7 @@ use Rattle.std.proofs.lemmas.Nat.{mul-le}
 use Rattle.std.proofs.lemmas.List.FromFn.{length-map-range_with_len, get_or-map-range_with_len, fill_by_all}
 use Rattle.std.proofs.lemmas.List.{get_or-map, length-map}
 use Rattle.std.proofs.lemmas.Int.{ints}
-use Rattle.algebra.proofs.Sizes.{natAbs_neg, nat_abs_mul}
+use Rattle.algebra.proofs.Sizes.{nat_abs_neg, nat_abs_mul}
 use Rattle.path.specs.declared.Path.{Path}
 use Rattle.path.specs.Paths.{modulus, signed, sampled, times as product, paths}
 use Rattle.stroke.specs.Contents.{limit, most_samples, Near}
@@ -66,7 +66,7 @@ product_small : (x y : ℤ) → nat_abs x ≤ limit → nat_abs y ≤ limit → 
 product_small x y p q = rw (nat_abs_mul x y) (mul-le (nat_abs x) (nat_abs y) limit limit p q)
 
 conj_near : (z : ℤ × ℤ) → Near z → Near (conj z)
-conj_near z h = (h.0, rw (natAbs_neg z.1) h.1)
+conj_near z h = (h.0, rw (nat_abs_neg z.1) h.1)
 
 times_small : (z w : ℤ × ℤ) → Near z → Near w → (nat_abs (times z w).0 ≤ most) × (nat_abs (times z w).1 ≤ most)
 times_small z w p q =
@@ -82,8 +82,8 @@ times_small z w p q =
     join : (x y : ℤ) → nat_abs x ≤ limit * limit → nat_abs y ≤ limit * limit → nat_abs (x +ℤ y) ≤ most
     join x y a b = omega (arith, ints)
 
-natAbs_sum : (x y : ℤ) → nat_abs (x +ℤ y) ≤ nat_abs x + nat_abs y
-natAbs_sum x y = omega (arith, ints)
+nat_abs_sum : (x y : ℤ) → nat_abs (x +ℤ y) ≤ nat_abs x + nat_abs y
+nat_abs_sum x y = omega (arith, ints)
 
 neutral : (z : ℤ × ℤ) → plus origin z ≡ z
 neutral (x, y) = ap (λ u. (u, pos 0 +ℤ y)) (+ℤ_idl x) ∙ ap (λ v. (x, v)) (+ℤ_idl y)
@@ -101,8 +101,8 @@ module _ (a b : List (ℤ × ℤ)) (same : length b ≡ length a) (few : length 
   small lag =
       let each : (t : ℕ) → (nat_abs (meeting a b lag t).0 ≤ most) × (nat_abs (meeting a b lag t).1 ≤ most) =
       λ t. times_small (conj (get_or a t origin)) (get_or b ((t + lag) % length a) origin) (conj_near (get_or a t origin) (near a near_a t)) (near b near_b ((t + lag) % length a)) in
-      let first = total_small plus origin (λ z. nat_abs z.0) refl (λ z w. natAbs_sum z.0 w.0) most (meeting a b lag) (length a) (λ t h. (each t).0) in
-      let second = total_small plus origin (λ z. nat_abs z.1) refl (λ z w. natAbs_sum z.1 w.1) most (meeting a b lag) (length a) (λ t h. (each t).1) in
+      let first = total_small plus origin (λ z. nat_abs z.0) refl (λ z w. nat_abs_sum z.0 w.0) most (meeting a b lag) (length a) (λ t h. (each t).0) in
+      let second = total_small plus origin (λ z. nat_abs z.1) refl (λ z w. nat_abs_sum z.1 w.1) most (meeting a b lag) (length a) (λ t h. (each t).1) in
       (omega arith, omega arith)
 
   term_means : (lag t : ℕ) → t < length a → Means (lag_term paths (entered_conj a) (entered b) lag t) (meeting a b lag t)

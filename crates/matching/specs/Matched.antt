@@ -1,4 +1,4 @@
--- Which strokes are matched, and what is answered.
+-- Which strokes are matched and what is answered: the lower number refuses first.
 use Rattle.std.specs.Prelude.{ℕ, cond, ◌&&◌, List, length, pos, is_some, IfSome, Some, None, Ok, Err, Option, Result, ◌==◌}
 use Rattle.std.specs.Result.{result_and, result_map_both}
 use Rattle.path.specs.Paths.{span as path_span}
@@ -32,7 +32,7 @@ lengths a b room =
 abbrev pub limits : Contents → Contents → Result (Unit {0}) Fault
 limits a b = result_and (carried (within_limits a)) (carried (within_limits b))
 
--- the lower number refuses first
+-- the three together
 abbrev pub granted : Contents → Contents → ℕ → Result (Unit {0}) Fault
 granted a b room = result_and (spans a b) (result_and (lengths a b room) (limits a b))
 
@@ -45,8 +45,8 @@ pressure_lag None q = None
 -- what is answered of two strokes and a list of a length
 abbrev pub matched : Contents → Contents → ℕ → Result Match Fault
 matched a b room =
-    result_and (granted a b room)
-    (Ok (record { lag = best_first (match_at a.path b.path) (length a.path); pressure = pressure_lag a.pressure b.pressure }))
+    result_and (spans a b) (result_and (lengths a b room) (result_and (limits a b)
+    (Ok (record { lag = best_first (match_at a.path b.path) (length a.path); pressure = pressure_lag a.pressure b.pressure }))))
 
 -- both lags are the least of the largest
 pub record BestLags (a b : Contents) (m : Match) : Type 0 where

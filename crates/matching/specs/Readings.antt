@@ -24,7 +24,7 @@ product_at m a b t at = m.product (slice_index_or a t m.zero) (slice_index_or b 
 
 -- the product that sample t gives to the sum of a lag
 abbrev pub lag_term : {A R : Type 0} → Meaning A R → List A → List A → ℕ → ℕ → A
-lag_term m a b lag t = product_at m a b t ((t + lag) % length a)
+lag_term m a b lag t = m.product (slice_index_or a t m.zero) (slice_index_or b ((t + lag) % length a) m.zero)
 
 unfoldable pub lagged : {A R : Type 0} → Meaning A R → List A → List A → ℕ → A
 lagged m a b lag = series m (lag_term m a b lag) (length a)

@@ -49,7 +49,7 @@ pub fn file_tones(bytes: &[u8], tones: &mut [Fixed], work: &mut [Fixed]) -> Resu
     let stroke = stroke::read(bytes)?;
     let plan = Plan::standard(stroke.len())?;
     let count = plan.len();
-    spectrum::granted::<Fixed>(count, tones.len().min(count), work.len())?;
+    spectrum::granted::<Fixed>(&plan, tones.len().min(count), work.len())?;
     let turns = fill(&stroke, &plan, &mut tones[0..count], work);
     Ok(Summary { count, turns })
 }

@@ -4,14 +4,14 @@ use Rattle.std.specs.List.{range_with_len}
 use Rattle.plan.specs.declared.fault.PlanFault.{PlanFault}
 use Rattle.plan.specs.Radices.{turns}
 use Rattle.plan.specs.Dealing.{dealt}
-use Rattle.plan.specs.Faults.{plan_number, plan_place}
+use Rattle.plan.specs.Faults.{fault_number, fault_place}
 use Rattle.plan.specs.Planned.{planned}
 use Rattle.plan.specs.Standard.{standard}
 
 -- the number and the place of a refusal
 abbrev pub refusal : Result (List ℕ) PlanFault → Option (ℕ × ℕ)
 refusal (Ok rs) = None
-refusal (Err f) = Some (plan_number f, plan_place f)
+refusal (Err f) = Some (fault_number f, fault_place f)
 
 -- each by its own computation
 pub record WorkedCases : Type 0 where

@@ -1,6 +1,6 @@
 // Why a length or a list of radices is no plan.
 ghost use Rattle.std.specs.Prelude.{◌≡◌};
-ghost use Rattle.plan.specs.Faults.{plan_number, plan_place};
+ghost use Rattle.plan.specs.Faults.{fault_number, fault_place};
 
 #[derive(Clone, Copy, Debug, PartialEq, Eq)]
 pub enum PlanFault {
@@ -17,7 +17,7 @@ pub enum PlanFault {
 impl PlanFault {
     // The number by which the refusal is known everywhere.
     pub fn number(self) -> u8
-        ensures answer { result ≡ plan_number self }
+        ensures answer { result ≡ fault_number self }
     {
         match self {
             PlanFault::TooMany => 21,
@@ -29,7 +29,7 @@ impl PlanFault {
 
     // The index of the radix, or the length that was asked for.
     pub fn place(self) -> usize
-        ensures answer { result ≡ plan_place self }
+        ensures answer { result ≡ fault_place self }
     {
         match self {
             PlanFault::TooMany => 0,

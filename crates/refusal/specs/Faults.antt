@@ -2,7 +2,7 @@
 use Rattle.std.specs.Prelude.{ℕ}
 use Rattle.stroke.specs.Faults.{file_number, file_place}
 use Rattle.writing.specs.Lending.{lent_number, lent_place}
-use Rattle.plan.specs.Faults.{plan_number, plan_place}
+use Rattle.plan.specs.Faults.{fault_number, fault_place}
 use Rattle.refusal.specs.declared.Fault.{Fault}
 use Rattle.refusal.specs.declared.Fault.TheVariants.{File, Plan, Lent, Span, Unfit, Length, Work, Place, NoStage, StagesLeft}
 use Rattle.refusal.specs.declared.Layer.{Layer}
@@ -11,7 +11,7 @@ use Rattle.refusal.specs.declared.Layer.TheVariants.{File as OfFile, Length as O
 -- what a file, a plan or a lent stroke was refused by keeps its number
 abbrev pub number_of : Fault → ℕ
 number_of (File f) = file_number f
-number_of (Plan f) = plan_number f
+number_of (Plan f) = fault_number f
 number_of (Lent f) = lent_number f
 number_of (Span n) = 24
 number_of Unfit = 26
@@ -37,7 +37,7 @@ layer_of StagesLeft = OfMemory
 -- what a file, a plan or a lent stroke was refused at keeps its place; else the length or the number that was asked for, or 0
 abbrev pub place_of : Fault → ℕ
 place_of (File f) = file_place f
-place_of (Plan f) = plan_place f
+place_of (Plan f) = fault_place f
 place_of (Lent f) = lent_place f
 place_of (Span n) = n
 place_of Unfit = 0

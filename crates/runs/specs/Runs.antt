@@ -6,7 +6,7 @@ use Rattle.refusal.specs.declared.Fault.{Fault}
 use Rattle.refusal.specs.declared.Fault.TheVariants.{NoStage, StagesLeft}
 use Rattle.runs.specs.declared.run.Run.{Run}
 use Rattle.runs.specs.Packed.{unpacked}
-use Rattle.spectrum.specs.Granted.{divided, lent, suited, plans}
+use Rattle.spectrum.specs.Granted.{divided, lent, plans}
 
 -- the radices of a run's plan
 abbrev pub plan_of : Run → List ℕ
@@ -35,7 +35,8 @@ as_seen r = result_map_both seen (λ e. e) r
 
 -- dealing under a plan answers a run:
 abbrev pub begun : ℕ → List ℕ → ℕ → ℕ → Seen → Result Seen Fault
-begun span rs buf work run = suited span rs buf work run
+begun span rs buf work run =
+    result_and (plans rs) (result_and (divided span (size rs)) (result_and (lent (size rs) buf work) (Ok run)))
 
 -- one with every stage left,
 abbrev pub fresh : List ℕ → Seen

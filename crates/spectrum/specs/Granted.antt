@@ -38,7 +38,8 @@ suited span rs buf work answer =
 
 -- a transform answers the turns that it made
 abbrev pub transformed : ℕ → List ℕ → ℕ → ℕ → Result ℕ Fault
-transformed span rs buf work = suited span rs buf work (turns rs)
+transformed span rs buf work =
+    result_and (plans rs) (result_and (divided span (size rs)) (result_and (lent (size rs) buf work) (Ok (turns rs))))
 
 -- a buffer of whole blocks of n, and of less than 2^32 elements
 abbrev pub in_blocks : ℕ → ℕ → Result (Unit {0}) Fault

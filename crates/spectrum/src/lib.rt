@@ -12,5 +12,5 @@ pub use convolving::convolve;
 pub use engine::clear;
 pub use inverses::inverse;
 pub use steps::{deal, stage};
-pub use tested::{SCRATCH, granted};
+pub use tested::{SCRATCH, granted, suits};
 pub use transforms::transform;

@@ -2,6 +2,7 @@
 ghost use Rattle.std.specs.Prelude.{◌≡◌};
 ghost use Rattle.std.specs.Result.{result_and, result_map_both};
 ghost use Rattle.plan.specs.Planned.{radices_of};
+ghost use Rattle.plan.specs.Radices.{size};
 ghost use Rattle.spectrum.specs.Granted.{divided, lent as lent_for, suited};
 
 use arithmetic::Arithmetic;
@@ -35,13 +36,20 @@ pub(crate) fn lent(n: usize, buf: usize, work: usize) -> Result<(), Fault>
     Ok(())
 }
 
-// Refuses a length that does not divide the span, or lent memory that does not suit it: a caller that has something to
-// write into the buffer first asks here, so that a refusal finds the buffer as it was.
-pub fn granted<X: Arithmetic>(n: usize, buf: usize, work: usize) -> Result<(), Fault>
+// Refuses a length that does not divide the span, or lent memory that does not suit it.
+pub fn suits<X: Arithmetic>(n: usize, buf: usize, work: usize) -> Result<(), Fault>
     ensures answer { result ≡ result_and (divided X.Arithmetic.meaning.span n) (lent_for n buf work) }
 {
     divides::<X>(n)?;
     lent(n, buf, work)
+}
+
+// Refuses a plan whose length does not divide the span, or lent memory that does not suit it: a caller that has
+// something to write into the buffer first asks here, so that a refusal finds the buffer as it was.
+pub fn granted<X: Arithmetic>(plan: &Plan, buf: usize, work: usize) -> Result<(), Fault>
+    ensures answer { result ≡ result_and (divided X.Arithmetic.meaning.span (size (radices_of plan.now))) (lent_for (size (radices_of plan.now)) buf work) }
+{
+    suits::<X>(plan.len(), buf, work)
 }
 
 // The plan of these radices, where the span and the lent memory suit its length.
@@ -49,6 +57,6 @@ pub(crate) fn suiting<X: Arithmetic>(radices: &[u8], buf: usize, work: usize) ->
     ensures answer { result_map_both radices_of (λ f. f) result ≡ suited X.Arithmetic.meaning.span radices.now buf work radices.now }
 {
     let plan = Plan::new(radices)?;
-    granted::<X>(plan.len(), buf, work)?;
+    granted::<X>(&plan, buf, work)?;
     Ok(plan)
 }

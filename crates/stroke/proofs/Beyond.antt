@@ -7,13 +7,13 @@ use Rattle.std.proofs.lemmas.Bool.Decides.{nat_tests}
 use Rattle.stroke.specs.Contents.{Contents, pressures, field_beyond, here_or, beyond_at, beyond_from, first_beyond}
 use Rattle.stroke.specs.Layout.{field_size, sample_size, field_at}
 use Rattle.stroke.specs.Reading.{stroke_of}
-use Rattle.stroke.proofs.Indexed.{getD_nth, nth_none, nth_or}
+use Rattle.stroke.proofs.Indexed.{get_or_nth, nth_none, nth_or}
 use Rattle.stroke.proofs.Samples.{sample_inside, pressure_past}
 
 -- by what the path and the pressure answer at i
 pub beyond_there : (c : Contents) (i : ℕ) (x y : ℤ) (u : ℕ) → Some (x, y) ≡ slice_get c.path i → u ≡ unwrap_or (slice_get (pressures c) i) 0
     → field_beyond x y u ≡ beyond_at c i
-beyond_there c i x y u e p = let there = getD_nth c.path i (x, y) (pos 0, pos 0) e in rw (there, p, nth_or (pressures c) i 0)
+beyond_there c i x y u e p = let there = get_or_nth c.path i (x, y) (pos 0, pos 0) e in rw (there, p, nth_or (pressures c) i 0)
 
 pub beyond_past : (pressed : Bool) (bs : List ℕ) (i : ℕ) → slice_get (stroke_of pressed bs).path i ≡ None → beyond_at (stroke_of pressed bs) i ≡ None
 beyond_past pressed bs i e =

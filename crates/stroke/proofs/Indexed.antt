@@ -7,8 +7,8 @@ use Rattle.std.proofs.lemmas.List.{get_or_past}
 use Rattle.std.proofs.lemmas.Option.{slice_get-get_or, slice_get_past}
 use Rattle.std.proofs.lemmas.Bool.{cases_lt}
 
-pub getD_nth : {X : Type 0} (xs : List X) (i : ℕ) (x d : X) → Some x ≡ slice_get xs i → get_or xs i d ≡ x
-getD_nth xs i x d e = grind (arith, slice_get-get_or, slice_get_past)
+pub get_or_nth : {X : Type 0} (xs : List X) (i : ℕ) (x d : X) → Some x ≡ slice_get xs i → get_or xs i d ≡ x
+get_or_nth xs i x d e = grind (arith, slice_get-get_or, slice_get_past)
 
 pub nth_none : {X : Type 0} (xs : List X) (i : ℕ) (d : X) → slice_get xs i ≡ None → length xs ≤ i
 nth_none xs i d e =

@@ -4,7 +4,7 @@ use Rattle.std.specs.List.{slice_get, AllByRecursion as All}
 use Rattle.std.proofs.ByRecursion.{All-from_get_or}
 use Rattle.std.proofs.lemmas.Bool.Decides.{nat_tests}
 use Rattle.stroke.specs.Contents.{Contents, Sound, Near, limit, most_samples, path_at, pressures, field_beyond, beyond_at, here_or, beyond_from, first_beyond}
-use Rattle.stroke.proofs.Indexed.{getD_nth, all_at}
+use Rattle.stroke.proofs.Indexed.{get_or_nth, all_at}
 
 within_limits : (x y : ℤ) (u : ℕ) → nat_abs x ≤ limit → nat_abs y ≤ limit → u ≤ limit → field_beyond x y u ≡ None
 within_limits x y u a b h = grind (arith, nat_tests)
@@ -68,7 +68,7 @@ sound_none c h =
 
 -- what the path and the pressure of a sound stroke answer
 pub path_within : (c : Contents) → Sound c → (i : ℕ) (x y : ℤ) → Some (x, y) ≡ slice_get c.path i → (nat_abs x ≤ limit) × (nat_abs y ≤ limit)
-path_within c h i x y e = rw (getD_nth c.path i (x, y) (pos 0, pos 0) e) at (near_at c h i)
+path_within c h i x y e = rw (get_or_nth c.path i (x, y) (pos 0, pos 0) e) at (near_at c h i)
 
 pub pressure_within : (c : Contents) → Sound c → (i u : ℕ) → Some u ≡ slice_get (pressures c) i → u ≤ limit
-pressure_within c h i u e = rw (getD_nth (pressures c) i u 0 e) at (pressure_low c h i)
+pressure_within c h i u e = rw (get_or_nth (pressures c) i u 0 e) at (pressure_low c h i)

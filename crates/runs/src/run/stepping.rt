@@ -32,7 +32,7 @@ impl Run {
     fn ready<X: Arithmetic>(&self, buf: usize, work: usize) -> Result<(), Fault>
         ensures answer { result ≡ ready_for X.Arithmetic.meaning.span self.now buf work }
     {
-        spectrum::granted::<X>(self.len, buf, work)?;
+        spectrum::suits::<X>(self.len, buf, work)?;
         if self.left == 0 {
             return Err(Fault::NoStage);
         }

@@ -7,7 +7,7 @@ loop-t-init g c =
     let m = g.X.Arithmetic.meaning in
     let a = c.args.a.now in
     let b = c.args.b.now in
-    (reached_first m a b c.args.lag c.requires.paired.lag_below, summed_one m a b c.args.lag _ c.requires.paired.lag_below c.term-sum.ensures.answer)
+    (reached_first m a b c.args.lag c.requires.paired.lag_below, summed_one m a b c.args.lag _ c.term-sum.ensures.answer)
 
 pub loop-t-preserved : goal.loop-t-preserved
 loop-t-preserved g c =
@@ -17,7 +17,7 @@ loop-t-preserved g c =
     let next = c.onward-at.ensures.answer in (
       reached_more m a b c.args.lag c.loop-t.t c.loop-t.at _ c.loop-t.invariant.0 next,
       summed_more m a b c.args.lag c.loop-t.t c.loop-t.at _ _ _ _ (omega arith) c.loop-t.invariant.0 next c.loop-t.invariant.1
-          c.term.ensures.answer c.sum-sum.ensures,
+          c.met.ensures.answer c.sum-sum.ensures,
     )
 
 pub returns : goal.returns
