@@ -62,7 +62,9 @@ and_and (Ok u) (Err f) t x = refl
 and_and (Err f) s t x = refl
 
 pub refused : (a b : Contents) (room : ℕ) (f : Fault) → Err f ≡ granted a b room → Err f ≡ matched a b room
-refused a b room f none = ap (λ r. result_and r _) none ∙ and_and (spans a b) (lengths a b room) (limits a b) _
+refused a b room f none =
+    let m : Match = record { lag = best_first (match_at a.path b.path) (length a.path); pressure = pressure_lag a.pressure b.pressure } in
+    ap (λ r. result_and r (Ok m)) none ∙ and_and (spans a b) (lengths a b room) (limits a b) (Ok m)
 
 -- ---- both lags are best
 pressure_best : (o u : Option (List ℕ)) (n : ℕ) → 0 < n → IfSome o (λ us. (length us ≡ n) × All (λ u. u ≤ limit) us)
