@@ -4,7 +4,8 @@
 use comparison::report_on;
 use pad::{Failure, refusal_text};
 use std::io::Read;
-use std::{env, fmt, fs, io};
+use std::process::ExitCode;
+use std::{env, fs, io};
 
 // One byte more than the largest file: enough to refuse a larger one.
 const ENOUGH: u64 = 65_537;
@@ -23,12 +24,6 @@ enum Stop {
 impl From<Failure> for Stop {
     fn from(f: Failure) -> Stop {
         Stop::Failed(f)
-    }
-}
-
-impl From<fmt::Error> for Stop {
-    fn from(e: fmt::Error) -> Stop {
-        Stop::Failed(Failure::Text(e))
     }
 }
 
@@ -65,12 +60,11 @@ fn run(rt: &HostRuntime) -> Result<(), Stop> {
     Ok(())
 }
 
-fn main(rt: HostRuntime) -> Result<(), Stop> {
-    let ended = run(&rt);
-    match &ended {
-        Ok(()) => {}
+fn main(rt: HostRuntime) -> anyhow::Result<ExitCode> {
+    match run(&rt) {
+        Ok(()) => return Ok(ExitCode::SUCCESS),
         Err(Stop::Failed(Failure::Refused(fault))) => {
-            let line = refusal_text(rt.alloc(), *fault)?;
+            let line = refusal_text(rt.alloc(), fault)?;
             print!(rt; "{line}")?;
         }
         Err(Stop::Failed(Failure::Text(_))) => eprintln!(rt; "compare: no memory for the text")?,
@@ -78,5 +72,5 @@ fn main(rt: HostRuntime) -> Result<(), Stop> {
         Err(Stop::Unread(name, e)) => eprintln!(rt; "compare: cannot read {name}: {e}")?,
         Err(Stop::Io(e)) => eprintln!(rt; "compare: {e}")?,
     }
-    ended
+    Ok(ExitCode::FAILURE)
 }

@@ -3,7 +3,7 @@ use arithmetic::Arithmetic;
 use fixed::Fixed;
 use path::Path;
 use pressure::Pressure;
-use std::fmt;
+use std::alloc::AllocError;
 
 pub trait Element: Arithmetic + Clone + PartialEq {
     // What fills the work before a call, so that a change shows.
@@ -13,7 +13,7 @@ pub trait Element: Arithmetic + Clone + PartialEq {
     fn parse(text: &str) -> anyhow::Result<Self>;
 
     // Its reading after a space.
-    fn write(self, text: &mut String) -> Result<(), fmt::Error>;
+    fn write(self, text: &mut String) -> Result<(), AllocError>;
 }
 
 // What stands at place i of the parts between the marks; nothing if there is no such part.
@@ -32,7 +32,7 @@ impl Element for Pressure {
         })
     }
 
-    fn write(self, text: &mut String) -> Result<(), fmt::Error> {
+    fn write(self, text: &mut String) -> Result<(), AllocError> {
         let word = self.read();
         write!(text, " {word}")
     }
@@ -50,7 +50,7 @@ impl Element for Path {
         })
     }
 
-    fn write(self, text: &mut String) -> Result<(), fmt::Error> {
+    fn write(self, text: &mut String) -> Result<(), AllocError> {
         let (u, v) = self.read();
         write!(text, " {u},{v}")
     }
@@ -68,7 +68,7 @@ impl Element for Fixed {
         })
     }
 
-    fn write(self, text: &mut String) -> Result<(), fmt::Error> {
+    fn write(self, text: &mut String) -> Result<(), AllocError> {
         let (x, y) = self.read();
         write!(text, " {x},{y}")
     }

@@ -2,13 +2,13 @@
 use arithmetic::Arithmetic;
 use path::Path;
 use pressure::Pressure;
-use std::fmt;
+use std::alloc::AllocError;
 
 pub trait Element: Arithmetic {
     // Its words as they stand, reduced or not.
     fn parse(text: &str) -> anyhow::Result<Self>;
 
-    fn write(reading: Self::Reading, text: &mut String) -> Result<(), fmt::Error>;
+    fn write(reading: Self::Reading, text: &mut String) -> Result<(), AllocError>;
 }
 
 impl Element for Pressure {
@@ -18,7 +18,7 @@ impl Element for Pressure {
         })
     }
 
-    fn write(reading: u32, text: &mut String) -> Result<(), fmt::Error> {
+    fn write(reading: u32, text: &mut String) -> Result<(), AllocError> {
         write!(text, "{reading}")
     }
 }
@@ -32,7 +32,7 @@ impl Element for Path {
         })
     }
 
-    fn write(reading: (u32, u32), text: &mut String) -> Result<(), fmt::Error> {
+    fn write(reading: (u32, u32), text: &mut String) -> Result<(), AllocError> {
         let (u, v) = reading;
         write!(text, "{u},{v}")
     }

@@ -2,8 +2,9 @@
 #![tactic(auto)]
 
 use pad::{Failure, refusal_text, report_on};
+use std::io;
 use std::io::Read;
-use std::{fmt, io};
+use std::process::ExitCode;
 
 // One byte more than the largest file: enough to refuse a larger one.
 const ENOUGH: u64 = 65_537;
@@ -18,12 +19,6 @@ enum Stop {
 impl From<Failure> for Stop {
     fn from(f: Failure) -> Stop {
         Stop::Failed(f)
-    }
-}
-
-impl From<fmt::Error> for Stop {
-    fn from(e: fmt::Error) -> Stop {
-        Stop::Failed(Failure::Text(e))
     }
 }
 
@@ -46,16 +41,15 @@ fn run(rt: &HostRuntime) -> Result<(), Stop> {
     Ok(())
 }
 
-fn main(rt: HostRuntime) -> Result<(), Stop> {
-    let ended = run(&rt);
-    match &ended {
-        Ok(()) => {}
+fn main(rt: HostRuntime) -> anyhow::Result<ExitCode> {
+    match run(&rt) {
+        Ok(()) => return Ok(ExitCode::SUCCESS),
         Err(Stop::Failed(Failure::Refused(fault))) => {
-            let line = refusal_text(rt.alloc(), *fault)?;
+            let line = refusal_text(rt.alloc(), fault)?;
             print!(rt; "{line}")?;
         }
         Err(Stop::Failed(Failure::Text(_))) => eprintln!(rt; "tones: no memory for the text")?,
         Err(Stop::Io(e)) => eprintln!(rt; "tones: {e}")?,
     }
-    ended
+    Ok(ExitCode::FAILURE)
 }
