@@ -9,7 +9,7 @@ use Rattle.refusal.specs.declared.Fault.{Fault}
 use Rattle.refusal.specs.declared.Fault.TheVariants.{Lent, Length}
 use Rattle.matching.specs.declared.matched.Match.{Match}
 use Rattle.matching.specs.Lags.{matches}
-use Rattle.matching.specs.Matched.{spans, carried, lengths, limits, matched}
+use Rattle.matching.specs.Matched.{spans, carried, lengths, matched}
 use Rattle.handover.specs.declared.matches.Lags.{Lags}
 use Rattle.handover.specs.declared.matches.Sum.{Sum}
 use Rattle.crossing.specs.declared.status.Status.{Status}
@@ -50,15 +50,15 @@ pub record RefusedAs (r : Result Match Fault) (other : Result (Unit {0}) Fault) 
   pub is : r ≡ Err fault
   pub alike : status_of r ≡ status_of other
 
-refused_as : (first second third : Result (Unit {0}) Fault) (rest : Result Match Fault) → ForLength second → RefusedAs (result_and (result_and first (result_and second third)) rest) (result_and first (Err Length))
-refused_as (Err e) second third rest by = record { fault = e; is = refl; alike = refl }
-refused_as (Ok _) second third rest by = ⊎_elim
-    (λ (is : second ≡ Err Length). record { fault = Length; is = ap (λ x. result_and (result_and x third) rest) is; alike = ap (λ x. status_of (result_and (result_and x third) rest)) is })
-    (λ (is : second ≡ Err (Lent LentLength)). record { fault = Lent LentLength; is = ap (λ x. result_and (result_and x third) rest) is; alike = ap (λ x. status_of (result_and (result_and x third) rest)) is }) by
+refused_as : (first second : Result (Unit {0}) Fault) (rest : Result Match Fault) → ForLength second → RefusedAs (result_and first (result_and second rest)) (result_and first (Err Length))
+refused_as (Err e) second rest by = record { fault = e; is = refl; alike = refl }
+refused_as (Ok _) second rest by = ⊎_elim
+    (λ (is : second ≡ Err Length). record { fault = Length; is = ap (λ x. result_and x rest) is; alike = ap (λ x. status_of (result_and x rest)) is })
+    (λ (is : second ≡ Err (Lent LentLength)). record { fault = Lent LentLength; is = ap (λ x. result_and x rest) is; alike = ap (λ x. status_of (result_and x rest)) is }) by
 
 module _ (a b : Contents) (best : Lags) (out : List Sum) (long : (most_samples < length a.path) ⊎ ((most_samples < length b.path) ⊎ (most_samples < length out))) where
   refusal : RefusedAs (matched a b (length out)) (result_and (spans a b) (Err Length))
-  refusal = refused_as (spans a b) (lengths a b (length out)) (limits a b) _ (for_length a b (length out) long)
+  refusal = refused_as (spans a b) (lengths a b (length out)) _ (for_length a b (length out) long)
 
   pub long_refused : (f : Fault) (status : Status) → result_and (spans a b) (refused Length) ≡ refused f → status ≡ status_of (refused f) → Matches a b best out status best out
   long_refused f status is told =
