@@ -1,12 +1,12 @@
 -- A sheet from its opening on.
-use Rattle.std.proofs.Common.{◌≡◌, ℕ, ◌*◌, List, length, take, sym, ◌∙◌, subst, arith}
+use Rattle.std.proofs.Common.{◌≡◌, ℕ, List, length, take, sym, subst, arith}
 use Rattle.std.proofs.lemmas.List.{length-take-le}
 use Rattle.arithmetic.specs.Laws.{Divides}
 use Rattle.arithmetic.specs.Meaning.{Meaning}
 use Rattle.plan.specs.Radices.{size}
 use Rattle.cells.specs.Holding.{Holds}
 use Rattle.cells.specs.Opening.{filled}
-use Rattle.cells.specs.Plain.{PlainCall, plain_finally, plain_answers}
+use Rattle.cells.specs.Plain.{plain_finally, plain_answers}
 use Rattle.cells.specs.Played.{sheet_finally, sheet_answers}
 use Rattle.cells.specs.SheetLaws.{OpeningHolds, RunFollows}
 use Rattle.agreement.specs.Agreement.{OpenedFollows}

@@ -1,19 +1,19 @@
 -- A granted call leaves a sheet: the tones that follow are those of the moved samples.
-use Rattle.std.proofs.Common.{◌≡◌, ℕ, ◌+◌, ◌-◌, ◌*◌, ◌<◌, List, ◌++◌, map, length, get_or, take, drop, set, Ok, Err, sym, refl, ap, ◌∙◌, arith}
+use Rattle.std.proofs.Common.{◌≡◌, ◌+◌, ◌-◌, ◌*◌, List, ◌++◌, map, length, get_or, drop, set, Ok, sym, refl, ap, ◌∙◌, arith}
 use Rattle.std.specs.List.{range_with_len}
-use Rattle.std.proofs.lemmas.List.{take_at, drop_at, take-append-drop, length-append, length-set, get_or-drop}
+use Rattle.std.proofs.lemmas.List.{take_at, drop_at, take-append-drop, length-append, length-set}
 use Rattle.arithmetic.specs.Meaning.{Meaning}
 use Rattle.arithmetic.specs.Laws.{Divides}
 use Rattle.arithmetic.proofs.Ladder.{ExactLaws}
 use Rattle.spectra.specs.Spectra.{spectrum}
 use Rattle.spectra.specs.SpectraLaws.{TonesOf}
-use Rattle.spectra.specs.Moves.{shifted, mirrored, laid}
+use Rattle.spectra.specs.Moves.{shifted, laid}
 use Rattle.spectra.proofs.Moves.{length_shifted, length_mirrored, length_laid}
-use Rattle.spectra.proofs.SpectraByPlace.{as_many_tones, value_of_tone}
+use Rattle.spectra.proofs.SpectraByPlace.{as_many_tones}
 use Rattle.spectra.proofs.DefiningSums.{spectrum_is_tones}
 use Rattle.spectra.proofs.MovedTones.{edited_tones, shifted_tones, mirrored_tones, laid_tones}
 use Rattle.cells.specs.Plain.{PlainCall, edit, shift, mirror, lay, tone, plainly_granted, moved}
-use Rattle.cells.specs.Cells.{steps, tones_edited, tones_shifted, tones_after, followed}
+use Rattle.cells.specs.Cells.{steps, tones_edited, tones_shifted, tones_after}
 use Rattle.cells.specs.Holding.{Holds}
 use Rattle.cells.proofs.Granting.{numbered_within, whole_length}
 

@@ -1,13 +1,11 @@
 -- The laws of sheets, over any lawful arithmetic: call by call, and so over any list of calls.
-use Rattle.std.proofs.Common.{◌≡◌, ℕ, ◌+◌, ◌*◌, Bool, true, false, cond, List, [], ◌∷◌, ◌++◌, length, get_or, take, drop, is_ok, Ok, Err, Result, sym, refl, ap, ◌∙◌, subst, arith}
+use Rattle.std.proofs.Common.{◌≡◌, ℕ, ◌+◌, Bool, true, false, cond, List, [], ◌∷◌, ◌++◌, length, get_or, drop, is_ok, Ok, Err, Result, sym, refl, ap, ◌∙◌, subst}
 use Rattle.std.proofs.lemmas.List.{get_or-drop}
 use Rattle.arithmetic.specs.Meaning.{Meaning}
 use Rattle.arithmetic.specs.Laws.{Lawful, Divides}
 use Rattle.arithmetic.proofs.Ladder.{ExactLaws, exact_laws}
 use Rattle.refusal.specs.declared.Fault.{Fault}
-use Rattle.spectra.specs.Spectra.{defining}
 use Rattle.spectra.proofs.SpectraByPlace.{value_of_tone}
-use Rattle.cells.specs.declared.answers.Answer.{Answer}
 use Rattle.cells.specs.declared.answers.Answer.TheVariants.{Heard}
 use Rattle.cells.specs.Plain.{PlainCall, edit, shift, mirror, lay, tone, plainly_granted, moved, told, answered, plain_after, plain_answer, plain_finally, plain_answers}
 use Rattle.cells.specs.Cells.{granted, followed, tones_after}

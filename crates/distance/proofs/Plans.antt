@@ -1,7 +1,7 @@
 -- Every plan: the tones in whole numbers are near what they should be, and nothing on the way leaves 32 bits. By induction over the radices.
 use Rattle.std.proofs.Common.{◌≡◌, ℕ, suc, ◌+◌, ◌*◌, ◌/◌, ◌%◌, ◌<◌, ◌≤◌, List, [], ◌∷◌, length, sym, ap, ◌∙◌, subst, mod-lt, zero-add, add-one, arith}
 use Rattle.std.specs.List.{range_with_len, flat_map}
-use Rattle.std.proofs.lemmas.List.FromFn.{length-map-range_with_len, get_or-map-range_with_len}
+use Rattle.std.proofs.lemmas.List.FromFn.{get_or-map-range_with_len}
 use Rattle.algebra.proofs.Integers.{linear}
 use Rattle.arithmetic.specs.Series.{series}
 use Rattle.quarter.specs.Entries.{circle, entry}

@@ -1,5 +1,5 @@
 -- What a match comes to for C, also where a list is longer than a stroke may be.
-use Rattle.std.proofs.Common.{◌≡◌, ℕ, ◌<◌, ◌≤◌, cond, ◌&&◌, eqb, ◌⊎◌, List, map, length, is_some, Ok, Err, Result, sym, refl, ap, ◌∙◌, inl, inr, ⊎_elim, arith}
+use Rattle.std.proofs.Common.{◌≡◌, ℕ, ◌<◌, ◌≤◌, cond, ◌&&◌, eqb, ◌⊎◌, List, map, length, Ok, Err, Result, sym, refl, ap, ◌∙◌, inl, inr, ⊎_elim, arith}
 use Rattle.std.proofs.lemmas.Bool.Decides.{nat_tests}
 use Rattle.std.specs.Result.{result_and, result_map_both}
 use Rattle.writing.specs.declared.lent.LentFault.TheVariants.{Length as LentLength}
@@ -14,7 +14,7 @@ use Rattle.handover.specs.declared.matches.Lags.{Lags}
 use Rattle.handover.specs.declared.matches.Sum.{Sum}
 use Rattle.crossing.specs.declared.status.Status.{Status}
 use Rattle.crossing.specs.Answers.{status_of, answer_or, where_granted}
-use Rattle.handover.specs.Matching.{sum, lags, too_long, Matches}
+use Rattle.handover.specs.Matching.{sum, lags, Matches}
 use Rattle.handover.proofs.Lent.{sized_few, sized_either}
 
 abbrev refused : Fault → Result (Unit {0}) Fault

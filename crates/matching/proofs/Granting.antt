@@ -1,10 +1,10 @@
 -- What is known of two strokes that are granted, and what is then answered.
-use Rattle.std.proofs.Common.{◌≡◌, ℕ, ◌<◌, ◌≤◌, true, cond, ◌&&◌, eqb, List, [], length, pos, IfSome, Some, None, Ok, Err, Option, Result, unwrap_or, sym, refl, ap, ◌∙◌, arith}
+use Rattle.std.proofs.Common.{◌≡◌, ℕ, ◌<◌, ◌≤◌, List, [], length, pos, IfSome, Some, None, Ok, Err, Option, Result, unwrap_or, sym, refl, ap, ◌∙◌, arith}
 use Rattle.std.specs.Result.{result_and}
 use Rattle.std.specs.List.{AllByRecursion as All}
 use Rattle.std.proofs.lemmas.Bool.Decides.{nat_tests}
 use Rattle.writing.specs.declared.lent.LentFault.{LentFault}
-use Rattle.stroke.specs.Contents.{Contents, Sound, limit, most_samples}
+use Rattle.stroke.specs.Contents.{Contents, Sound, limit}
 use Rattle.writing.proofs.Granting.{sound_lent}
 use Rattle.refusal.specs.declared.Fault.{Fault}
 use Rattle.matching.specs.declared.matched.Match.{Match}

@@ -1,5 +1,5 @@
 -- The lagged sums of the path arithmetic, read as signed, are those over the whole numbers: these are within half the modulus.
-use Rattle.std.proofs.Common.{◌≡◌, ℕ, zero, suc, ◌+◌, ◌-◌, ◌*◌, ◌%◌, ◌<◌, ◌≤◌, Bool, true, false, cond, ltb, List, map, length, get_or, ℤ, pos, negsuc, ◌+ℤ◌, ◌-ℤ◌, ◌*ℤ◌, neg_ℤ, nat_abs, sym, refl, ap, ◌∙◌, subst, add-zero, mod-lt, arith, lit<, w64, SFits}
+use Rattle.std.proofs.Common.{◌≡◌, ℕ, suc, ◌+◌, ◌-◌, ◌*◌, ◌%◌, ◌<◌, ◌≤◌, Bool, true, false, cond, ltb, List, map, length, get_or, ℤ, pos, negsuc, ◌+ℤ◌, ◌-ℤ◌, ◌*ℤ◌, neg_ℤ, nat_abs, refl, ap, ◌∙◌, add-zero, mod-lt, arith, lit<, w64, SFits}
 use lib.IntN.{+ℤ_idl}
 use Rattle.std.specs.List.{range_with_len, AllByRecursion as All}
 use Rattle.std.proofs.lemmas.Nat.{mul-le}
@@ -8,10 +8,10 @@ use Rattle.std.proofs.lemmas.List.{get_or-map, length-map}
 use Rattle.std.proofs.lemmas.Int.{ints}
 use Rattle.algebra.proofs.Sizes.{nat_abs_neg, nat_abs_mul}
 use Rattle.path.specs.declared.Path.{Path}
-use Rattle.path.specs.Paths.{modulus, signed, sampled, times as product, paths}
+use Rattle.path.specs.Paths.{modulus, signed, sampled, paths}
 use Rattle.stroke.specs.Contents.{limit, most_samples, Near}
 use Rattle.stroke.proofs.Indexed.{all_at}
-use Rattle.matching.specs.Lags.{total, plus, times, conj, origin, meeting, match_at, matches, best_first}
+use Rattle.matching.specs.Lags.{plus, times, conj, origin, meeting, match_at, matches, best_first}
 use Rattle.matching.specs.Readings.{half, lag_term, lagged, read_sum, entered, entered_conj}
 use Rattle.matching.proofs.Standing.{Stands, stands_reduced, stands_sum, stands_product, stands_difference, read_signed}
 use Rattle.matching.proofs.Best.{best_same}

@@ -1,5 +1,5 @@
 -- The lagged sums of the pressure arithmetic are those over the whole numbers: these are below the modulus.
-use Rattle.std.proofs.Common.{◌≡◌, ℕ, ◌+◌, ◌*◌, ◌%◌, ◌<◌, ◌≤◌, List, map, length, get_or, pos, sym, refl, ap, ◌∙◌, zero-le, mod-lt, mod-eq_of_lt, zero-add, arith}
+use Rattle.std.proofs.Common.{◌≡◌, ℕ, ◌+◌, ◌*◌, ◌%◌, ◌<◌, ◌≤◌, List, length, get_or, pos, refl, ap, ◌∙◌, zero-le, mod-lt, mod-eq_of_lt, zero-add, arith}
 use native.Mathlib.Nat.{mod-mod}
 use Rattle.std.specs.List.{AllByRecursion as All}
 use Rattle.std.proofs.lemmas.Nat.{mul-le}
@@ -9,7 +9,7 @@ use Rattle.pressure.specs.declared.Pressure.{Pressure}
 use Rattle.pressure.specs.Pressures.{modulus, counted, pressures}
 use Rattle.stroke.specs.Contents.{limit, most_samples}
 use Rattle.stroke.proofs.Indexed.{all_at}
-use Rattle.matching.specs.Lags.{total, pressure_match, best_count}
+use Rattle.matching.specs.Lags.{pressure_match, best_count}
 use Rattle.matching.specs.Readings.{lag_term, lagged, entered_pressures, read_pressures}
 use Rattle.matching.proofs.Best.{best_same}
 use Rattle.matching.proofs.Totals.{total_stands, total_small}

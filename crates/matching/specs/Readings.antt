@@ -1,5 +1,5 @@
 -- The same sums in an arithmetic, and what they are read as.
-use Rattle.std.specs.Prelude.{◌≡◌, ℕ, ◌+◌, ◌-◌, ◌/◌, ◌%◌, ◌<◌, ◌≤◌, cond, List, map, length, ℤ, pos, ◌-ℤ◌, neg_ℤ, ◌==◌, nat_lt, slice_index_or}
+use Rattle.std.specs.Prelude.{◌≡◌, ℕ, ◌+◌, ◌/◌, ◌%◌, ◌<◌, ◌≤◌, cond, List, map, length, ℤ, pos, ◌-ℤ◌, neg_ℤ, ◌==◌, nat_lt, slice_index_or}
 use Rattle.arithmetic.specs.Meaning.{Meaning}
 use Rattle.arithmetic.specs.Series.{series}
 use Rattle.path.specs.declared.Path.{Path}

@@ -1,6 +1,6 @@
 -- The spectrum of the stroke in a file: under the standard plan of its length, in the fixed arithmetic.
 use Rattle.std.specs.Prelude.{ℕ, min, List, ◌++◌, length, drop, replicate, ℤ, Ok, Err, Result}
-use Rattle.std.specs.Result.{result_and, result_map_both}
+use Rattle.std.specs.Result.{result_and}
 use Rattle.fixed.specs.declared.Fixed.{Fixed}
 use Rattle.fixed.specs.Pairs.{fixed, origin, entered}
 use Rattle.plan.specs.declared.fault.PlanFault.{PlanFault}

@@ -6,7 +6,6 @@ use Rattle.plan.specs.Dealing.{dealt}
 use Rattle.plan.specs.Radices.{turns}
 use Rattle.quarter.specs.Entries.{entry}
 use Rattle.spectra.specs.Tones.{tones}
-use Rattle.pad.specs.Files.{Spectrum}
 use Rattle.pad.specs.Reported.{spectrum_in}
 
 -- four samples with x = 4, 0, 3, 6 and y = 0

@@ -1,5 +1,5 @@
 -- A list of radices that is a plan is granted as one.
-use Rattle.std.proofs.Common.{◌≡◌, ℕ, zero, suc, ◌+◌, ◌*◌, ◌<◌, ◌≤◌, List, [], ◌∷◌, length, get_or, take, Ok, Err, Result, ap, ⊎_elim, mul-le-mul_left, arith}
+use Rattle.std.proofs.Common.{◌≡◌, ℕ, zero, suc, ◌+◌, ◌<◌, ◌≤◌, List, [], ◌∷◌, get_or, take, Ok, Err, Result, ap, ⊎_elim, mul-le-mul_left, arith}
 use Rattle.plan.specs.declared.fault.PlanFault.{PlanFault}
 use Rattle.plan.specs.declared.fault.PlanFault.TheVariants.{TooMany, Radix, Product, Length}
 use Rattle.plan.specs.Radices.{size, least_radix, largest_radix, Each, Plan}

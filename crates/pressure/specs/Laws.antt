@@ -1,5 +1,5 @@
 -- The pressure arithmetic shows every law: remainders make a ring, and what the root owes is computed.
-use Rattle.std.specs.Prelude.{◌≡◌, refl, Bool, cond, List, [], ◌∷◌, ℕ, zero, suc, ◌+◌, ◌*◌, ◌/◌, ◌%◌, ◌^◌, ◌<◌, T}
+use Rattle.std.specs.Prelude.{◌≡◌, refl, Bool, cond, List, [], ◌∷◌, ℕ, zero, suc, ◌+◌, ◌*◌, ◌/◌, ◌%◌, ◌^◌, T}
 use Rattle.std.proofs.Common.{ap, ◌∙◌, add_comm, zero-add, mul_comm, mul-one, add-one, arith, lit<, ne_eqb}
 use Rattle.std.proofs.Math.Nat.{mod-mod, mod-add-mod}
 use Rattle.algebra.proofs.Ranges.{below}

@@ -14,7 +14,6 @@ use Rattle.plan.specs.Dealing.{every, dealt, source}
 use Rattle.plan.proofs.Sizes.{left_positive, right_positive}
 use Rattle.plan.proofs.Places.{source_below}
 use Rattle.plan.proofs.Deals.{length_every, length_dealt}
-use Rattle.spectra.specs.Tones.{tones}
 use Rattle.spectra.specs.Stages.{stages}
 use Rattle.spectra.specs.ByBlocks.{block, block_samples, ByBlocks}
 use Rattle.spectra.proofs.ByPlace.{at_place, same_by_place}

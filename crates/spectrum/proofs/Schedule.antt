@@ -1,5 +1,5 @@
 -- The stages of a plan, taken from its last radix on.
-use Rattle.std.proofs.Common.{◌≡◌, ℕ, ◌+◌, ◌-◌, ◌*◌, ◌/◌, ◌%◌, ◌^◌, ◌<◌, ◌≤◌, List, ◌∷◌, length, get_or, drop, sym, refl, ap, ◌∙◌, mul_comm, mul-le-mul_left, mul-zero, mul-add, arith}
+use Rattle.std.proofs.Common.{◌≡◌, ℕ, ◌+◌, ◌-◌, ◌*◌, ◌%◌, ◌^◌, ◌<◌, ◌≤◌, List, ◌∷◌, length, get_or, drop, sym, refl, ap, ◌∙◌, mul_comm, mul-le-mul_left, mul-zero, mul-add, arith}
 use Rattle.std.proofs.lemmas.List.{at_drop_more, drop_all}
 use Rattle.arithmetic.specs.Meaning.{Meaning}
 use Rattle.plan.specs.Radices.{size, radix_sum, turns, largest_size, Plan}

@@ -1,5 +1,5 @@
 -- A tone, summed part by part.
-use Rattle.std.proofs.Common.{◌≡◌, ℕ, ◌+◌, ◌*◌, ◌/◌, ◌%◌, ◌<◌, List, get_or, sym, refl, ap, ◌∙◌, mod-lt, arith}
+use Rattle.std.proofs.Common.{◌≡◌, ℕ, ◌+◌, ◌*◌, ◌%◌, ◌<◌, List, get_or, sym, ap, ◌∙◌, mod-lt, arith}
 use Rattle.std.proofs.lemmas.Nat.{mod-mul-add}
 use Rattle.arithmetic.specs.Meaning.{Meaning}
 use Rattle.arithmetic.specs.Series.{series}

@@ -1,5 +1,5 @@
 -- A lent stroke passes both tests exactly where it is sound.
-use Rattle.std.proofs.Common.{◌≡◌, ℕ, ◌<◌, ◌≤◌, true, List, length, IfSome, Some, None, Ok, Option, sym, refl, ap, ◌∙◌, arith}
+use Rattle.std.proofs.Common.{◌≡◌, ℕ, ◌<◌, ◌≤◌, true, List, length, IfSome, Some, None, Ok, Option, refl, ap, arith}
 use Rattle.std.specs.List.{AllByRecursion as All}
 use Rattle.std.proofs.lemmas.Bool.Decides.{nat_tests}
 use Rattle.stroke.specs.Contents.{Contents, Sound, limit, most_samples, first_beyond}

@@ -1,4 +1,4 @@
-use Rattle.std.proofs.Common.{◌∙◌, arith}
+use Rattle.std.proofs.Common.{◌∙◌}
 use Rattle.cells.proofs.Granting.{fits_from_granted, numbered_within, both_granted}
 use Rattle.cells.proofs.CellsAfter.{edited_cells}
 use Rattle.cells.proofs.edit_cells.Goals as goal

@@ -1,4 +1,4 @@
-use Rattle.std.proofs.Common.{◌≡◌, ◌*◌, length, drop, sym, ap, ◌∙◌, arith}
+use Rattle.std.proofs.Common.{◌≡◌, ◌*◌, length, drop, sym, ap, ◌∙◌}
 use Rattle.stroke.specs.Layout.{sample_size}
 use Rattle.stroke.specs.Writing.{samples_bytes, encode}
 use Rattle.writing.specs.Lending.{held}

@@ -1,4 +1,4 @@
-use Rattle.std.proofs.Common.{◌≡◌, ℕ, length, sym, ap, ◌∙◌, arith}
+use Rattle.std.proofs.Common.{◌≡◌, length, sym, ◌∙◌, arith}
 use Rattle.writing.specs.Lending.{held}
 use Rattle.stroke.specs.Writing.{sample_bytes}
 use Rattle.stroke.proofs.Encoded.{length_sample}

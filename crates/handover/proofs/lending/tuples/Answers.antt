@@ -1,4 +1,4 @@
-use Rattle.std.proofs.Common.{◌≡◌, get_or, arith, w16, SFits, to_z, of_z, rules}
+use Rattle.std.proofs.Common.{get_or, arith, w16, SFits, rules}
 use Rattle.std.proofs.lemmas.List.{length-set}
 use Rattle.std.proofs.lemmas.Int.{to_z-of_z}
 use Rattle.handover.specs.Reading.{no_counts}

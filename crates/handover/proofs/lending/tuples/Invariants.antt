@@ -1,4 +1,4 @@
-use Rattle.std.proofs.Common.{◌≡◌, map, length, take}
+use Rattle.std.proofs.Common.{◌≡◌, length, take}
 use Rattle.stroke.specs.Contents.{most_samples}
 use Rattle.handover.specs.Lending.{pairs}
 use Rattle.handover.proofs.lending.tuples.Given as goal

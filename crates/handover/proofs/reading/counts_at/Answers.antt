@@ -1,4 +1,4 @@
-use Rattle.std.proofs.Common.{◌≡◌, pos, sym, ◌∙◌, w16, SFits, rules}
+use Rattle.std.proofs.Common.{pos, sym, ◌∙◌, w16, SFits, rules}
 use Rattle.std.proofs.lemmas.Int.{to_z-of_z}
 use Rattle.stroke.specs.Reading.{contents}
 use Rattle.handover.specs.Reading.{counts}

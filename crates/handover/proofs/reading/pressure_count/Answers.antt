@@ -1,4 +1,4 @@
-use Rattle.std.proofs.Common.{sym, ◌∙◌, rules}
+use Rattle.std.proofs.Common.{sym, ◌∙◌}
 use Rattle.handover.proofs.Copying.{as_many}
 use Rattle.handover.proofs.reading.pressure_count.Goals as goal
 

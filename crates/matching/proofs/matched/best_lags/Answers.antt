@@ -1,4 +1,3 @@
-use Rattle.std.proofs.Common.{sym, arith}
 use Rattle.writing.specs.Lending.{held}
 use Rattle.matching.proofs.Granting.{fit, answered, best_lags}
 use Rattle.matching.proofs.matched.best_lags.Goals as goal

@@ -1,4 +1,4 @@
-use Rattle.std.proofs.Common.{◌≡◌, ◌-◌, ◌<◌, length, take, sym, ap, ◌∙◌, arith}
+use Rattle.std.proofs.Common.{◌≡◌, ◌-◌, ◌<◌, length, take, ap, ◌∙◌, arith}
 use Rattle.matching.specs.Readings.{entered, entered_conj}
 use Rattle.matching.proofs.WholeMatches.{best_match, all_matches}
 use Rattle.matching.proofs.paths.match_paths.Goals as goal

@@ -1,4 +1,4 @@
-use Rattle.std.proofs.Common.{◌≡◌, ℤ, sym, ap, ◌∙◌, w16, SFits, to_z, of_z, rules}
+use Rattle.std.proofs.Common.{sym, ◌∙◌, w16, SFits, rules}
 use Rattle.std.proofs.lemmas.Int.{to_z-of_z}
 use Rattle.fixed.specs.Pairs.{sampled}
 use Rattle.stroke.specs.Reading.{contents}

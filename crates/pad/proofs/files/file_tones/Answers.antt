@@ -1,4 +1,4 @@
-use Rattle.std.proofs.Common.{◌≡◌, ℕ, ◌-◌, ◌≤◌, min, length, take, sym, ap, ◌∙◌, rules}
+use Rattle.std.proofs.Common.{◌≡◌, ◌≤◌, min, length, sym, ap, ◌∙◌, rules}
 use Rattle.plan.specs.Planned.{radices_of}
 use Rattle.plan.specs.Radices.{size}
 use Rattle.plan.specs.Standard.{standard}

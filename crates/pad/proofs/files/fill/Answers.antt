@@ -1,9 +1,6 @@
-use Rattle.std.proofs.Common.{◌≡◌, ℕ, true, cond, length, replicate, is_ok, Ok, Err, sym, ap, ◌∙◌, arith}
+use Rattle.std.proofs.Common.{◌≡◌, ℕ, true, cond, length, replicate, is_ok, ap, ◌∙◌, arith}
 use Rattle.fixed.specs.Pairs.{fixed, origin}
-use Rattle.plan.specs.Planned.{radices_of}
-use Rattle.plan.specs.Radices.{Plan, turns}
 use Rattle.quarter.specs.Entries.{circle}
-use Rattle.spectrum.specs.Granted.{transformed}
 use Rattle.spectra.specs.Tones.{tones}
 use Rattle.pad.proofs.Granting.{granted_here}
 use Rattle.pad.proofs.files.fill.Goals as goal

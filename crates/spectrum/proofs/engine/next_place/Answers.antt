@@ -1,4 +1,4 @@
-use Rattle.std.proofs.Common.{◌≡◌, ◌+◌, ◌/◌, get_or, sym, ap, ◌∙◌, div-le_self, arith}
+use Rattle.std.proofs.Common.{get_or, ap, ◌∙◌, div-le_self, arith}
 use Rattle.spectra.proofs.Dealing.{next, next_place, block_le, counts_up, carries_on, carried_out}
 use Rattle.spectrum.proofs.engine.next_place.Goals as goal
 

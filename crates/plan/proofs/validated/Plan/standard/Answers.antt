@@ -1,4 +1,4 @@
-use Rattle.std.proofs.Common.{◌/◌, ◌⊎◌, get_or, sym, ap, ◌∙◌, subst, inl, inr, ⊎_elim, arith}
+use Rattle.std.proofs.Common.{◌/◌, get_or, sym, ap, ◌∙◌, subst, inl, inr, ⊎_elim, arith}
 use native.Mathlib.Nat.{div-lt_self}
 use Rattle.std.specs.Option.{ok_or}
 use Rattle.plan.specs.declared.fault.PlanFault.TheVariants.{Length}

@@ -1,4 +1,4 @@
-use Rattle.std.proofs.Common.{◌≡◌, ◌*◌, ◌≤◌, [], length, drop, sym, ap, ◌∙◌, subst, mul-zero, arith}
+use Rattle.std.proofs.Common.{◌≡◌, ◌*◌, [], length, drop, sym, ap, ◌∙◌, subst, mul-zero, arith}
 use Rattle.std.proofs.lemmas.List.{drop_all}
 use Rattle.plan.specs.Radices.{size, radix_sum, Each}
 use Rattle.runs.specs.Packed.{unpacked}

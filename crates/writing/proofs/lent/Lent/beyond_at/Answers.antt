@@ -1,4 +1,4 @@
-use Rattle.std.proofs.Common.{get_or, pos, ◌∙◌, w16, SFits, rules}
+use Rattle.std.proofs.Common.{get_or, pos, w16, SFits, rules}
 use Rattle.std.proofs.lemmas.Int.{to_z-of_z}
 use Rattle.writing.proofs.lent.Lent.beyond_at.Goals as goal
 
