@@ -1,6 +1,6 @@
 -- The primes that divide a number are those of a short list, by one test of all that divide it. Assumes nothing.
 use Rattle.std.proofs.Common.{◌≡◌, ℕ, suc, ◌%◌, ◌<◌, Bool, true, false, cond, T, eqb, ltb, ◌⊎◌, List, [], ◌∷◌, sym, subst, inl, inr, ⊎_elim, mod-eq_of_lt, arith, eqb→eq, ltb→lt}
-use Rattle.std.specs.List.{AllByRecursion as All}
+use Rattle.std.specs.List.{AllByRecursion}
 use Rattle.std.proofs.lemmas.Bool.Decides.{nat_tests}
 use Rattle.algebra.proofs.Ranges.{both, both_first, both_second, below, below_at}
 
@@ -31,7 +31,7 @@ either : (b c : Bool) → T (cond b true c) → T b ⊎ T c
 either true c t = inl tt
 either false c t = inr t
 
-of_listed : (P : ℕ → Type 0) (rs : List ℕ) (q : ℕ) → Prime q → All P rs → T (some_divides rs q) → P q
+of_listed : (P : ℕ → Type 0) (rs : List ℕ) (q : ℕ) → Prime q → AllByRecursion P rs → T (some_divides rs q) → P q
 of_listed P [] q prime all t = absurd t
 of_listed P (r ∷ rs) q prime all t =
     ⊎_elim
@@ -55,6 +55,6 @@ divisor_below s q h z =
     sides s q = grind arith
 
 -- a fact of each number of the list is a fact of each prime that divides s
-pub at_primes : (s : ℕ) (rs : List ℕ) → 0 < s → T (below (suc s) (met s rs)) → (P : ℕ → Type 0) → All P rs → (q : ℕ) → Prime q → s % q ≡ 0 → P q
+pub at_primes : (s : ℕ) (rs : List ℕ) → 0 < s → T (below (suc s) (met s rs)) → (P : ℕ → Type 0) → AllByRecursion P rs → (q : ℕ) → Prime q → s % q ≡ 0 → P q
 at_primes s rs h tested P all q prime z =
     of_listed P rs q prime all (some_if_met s rs q prime.0 z (below_at (suc s) (met s rs) tested q (divisor_below s q h z)))

@@ -1,6 +1,6 @@
 -- A list that is copied element by element into the front of a longer one, and a stroke by its copied lists.
 use Rattle.std.proofs.Common.{◌≡◌, ℕ, ◌+◌, ◌<◌, ◌≤◌, Bool, cond, List, [], length, get_or, take, set, ℤ, is_some, IfSome, Some, None, Option, unwrap_or, sym, refl, ap, ◌∙◌, subst, arith}
-use Rattle.std.specs.List.{AllByRecursion as All}
+use Rattle.std.specs.List.{AllByRecursion}
 use Rattle.std.proofs.lemmas.List.Edits.{fill_by_more}
 use Rattle.std.proofs.lemmas.List.{ext_get_or, get_or-take, length-take-le}
 use Rattle.stroke.specs.Contents.{Contents, Sound, limit, pressures}
@@ -19,7 +19,7 @@ module _ {X : Type 0} (d : X) (xs : List X) where
       let long = length-take-le (length xs) out (omega arith) in
       ext_get_or d (take (length xs) out) xs long (λ k h. get_or-take (length xs) out k d (omega arith) ∙ so_far k (omega arith))
 
-pressed_few : (o : Option (List ℕ)) (len : ℕ) → IfSome o (λ ps. (length ps ≡ len) × All (λ u. u ≤ limit) ps) → length (unwrap_or o []) ≤ len
+pressed_few : (o : Option (List ℕ)) (len : ℕ) → IfSome o (λ ps. (length ps ≡ len) × AllByRecursion (λ u. u ≤ limit) ps) → length (unwrap_or o []) ≤ len
 pressed_few (Some ps) len long = omega (arith, long.0)
 pressed_few None len long = omega arith
 
@@ -27,7 +27,7 @@ pub few_pressures : (c : Contents) → Sound c → length (pressures c) ≤ leng
 few_pressures c h = pressed_few c.pressure (length c.path) h.pressed
 
 -- as many pressures as samples if there are any
-pressed_is : (o : Option (List ℕ)) (n len : ℕ) (us : List ℕ) → IfSome o (λ ps. (length ps ≡ len) × All (λ u. u ≤ limit) ps) → n ≡ len
+pressed_is : (o : Option (List ℕ)) (n len : ℕ) (us : List ℕ) → IfSome o (λ ps. (length ps ≡ len) × AllByRecursion (λ u. u ≤ limit) ps) → n ≡ len
     → take (length (unwrap_or o [])) us ≡ unwrap_or o [] → cond (is_some o) (Some (take n us)) None ≡ o
 pressed_is (Some ps) n len us long is copied = ap Some (ap (λ k. take k us) (is ∙ sym long.0) ∙ copied)
 pressed_is None n len us long is copied = refl

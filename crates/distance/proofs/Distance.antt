@@ -7,7 +7,7 @@
 -- tone, and the direction a quarter further its second (`Entered`).
 use Rattle.std.proofs.Common.{◌≡◌, ℕ, ◌*◌, ◌/◌, ◌<◌, ◌≤◌, List, map, length, ℤ, pos, ◌-ℤ◌, ◌*ℤ◌, nat_abs, Some, sym, refl, ap, ◌∙◌, subst, arith}
 use native.Mathlib.Nat.{div-add-mod}
-use Rattle.std.specs.List.{AllByRecursion as All}
+use Rattle.std.specs.List.{AllByRecursion}
 use Rattle.std.proofs.lemmas.List.{map-id}
 use Rattle.algebra.proofs.Integers.{linear}
 use Rattle.arithmetic.specs.Laws.{Divides}
@@ -32,7 +32,7 @@ use Rattle.distance.proofs.Following.{tones_into}
 use Rattle.distance.proofs.Unwrapped.{fixed_follows, checked_follows}
 use Rattle.distance.proofs.Entered.{entered_modest, kept_entered, exactly_x, exactly_y}
 
-module _ (rs : List ℕ) (path : List (ℤ × ℤ)) (plan : Plan rs) (long : length path ≡ size rs) (divides : Divides (size rs) circle) (limits : All WithinLimits path) where
+module _ (rs : List ℕ) (path : List (ℤ × ℤ)) (plan : Plan rs) (long : length path ≡ size rs) (divides : Divides (size rs) circle) (limits : AllByRecursion WithinLimits path) where
   u : ℕ
   u = circle / size rs
 

@@ -1,6 +1,6 @@
 -- A path as it enters the fixed arithmetic: its samples are small, and its tones should be its sums.
 use Rattle.std.proofs.Common.{◌≡◌, ℕ, zero, suc, ◌+◌, ◌*◌, ◌/◌, ◌%◌, List, [], ◌∷◌, map, length, ℤ, pos, ◌*ℤ◌, Some, sym, refl, ap, ◌∙◌, add_comm, zero-add, arith}
-use Rattle.std.specs.List.{AllByRecursion as All}
+use Rattle.std.specs.List.{AllByRecursion}
 use Rattle.std.proofs.lemmas.Int.{ints}
 use Rattle.algebra.proofs.Ring.{var, ◌⊕◌, ◌⊖◌, ◌⊗◌, opp, ring}
 use Rattle.algebra.proofs.Sizes.{nat_abs_mul}
@@ -30,7 +30,7 @@ sampled_modest p h =
     let high = h.1 in
     record { x = omega arith; y = omega arith }
 
-pub entered_modest : (path : List (ℤ × ℤ)) → All WithinLimits path → (t : ℕ) → Modest (sample (entered path) t)
+pub entered_modest : (path : List (ℤ × ℤ)) → AllByRecursion WithinLimits path → (t : ℕ) → Modest (sample (entered path) t)
 entered_modest [] h t = origin_modest
 entered_modest (p ∷ path) h zero = sampled_modest p h.0
 entered_modest (p ∷ path) h (suc t) = entered_modest path h.1 t
@@ -41,7 +41,7 @@ modest_fits a h =
     let y = h.y in
     record { x = record { low = omega (arith, ints); high = omega (arith, ints) }; y = record { low = omega (arith, ints); high = omega (arith, ints) } }
 
-pub kept_entered : (path : List (ℤ × ℤ)) → All WithinLimits path → map kept (entered path) ≡ map Some (entered path)
+pub kept_entered : (path : List (ℤ × ℤ)) → AllByRecursion WithinLimits path → map kept (entered path) ≡ map Some (entered path)
 kept_entered [] h = refl
 kept_entered (p ∷ path) h = λ i. kept_same (sampled p.0 p.1) (modest_fits (sampled p.0 p.1) (sampled_modest p h.0)) i ∷ kept_entered path h.1 i
 

@@ -1,6 +1,6 @@
 -- How far the fixed tones of a path can be from its sums before rounding.
 use Rattle.std.specs.Prelude.{◌≡◌, ℕ, ◌*◌, ◌<◌, ◌≤◌, List, map, length, ℤ, pos, ◌-ℤ◌, ◌*ℤ◌, Some, slice_index_or, unsigned_abs}
-use Rattle.std.specs.List.{AllByRecursion as All}
+use Rattle.std.specs.List.{AllByRecursion}
 use Rattle.arithmetic.specs.Laws.{Divides}
 use Rattle.quarter.specs.Entries.{S, circle}
 use Rattle.fixed.specs.declared.Fixed.{Fixed}
@@ -31,4 +31,4 @@ pub record NearSums (rs : List ℕ) (path : List (ℤ × ℤ)) : Type 0 where
 
 -- of every path with its counts within their limits, and every plan of its length, where that divides the circle
 abbrev pub TonesAreNearSums : Type 0
-TonesAreNearSums = (rs : List ℕ) (path : List (ℤ × ℤ)) → Plan rs → length path ≡ size rs → Divides (size rs) circle → All WithinLimits path → NearSums rs path
+TonesAreNearSums = (rs : List ℕ) (path : List (ℤ × ℤ)) → Plan rs → length path ≡ size rs → Divides (size rs) circle → AllByRecursion WithinLimits path → NearSums rs path

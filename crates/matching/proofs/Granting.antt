@@ -1,7 +1,7 @@
 -- What is known of two strokes that are granted, and what is then answered.
 use Rattle.std.proofs.Common.{◌≡◌, ℕ, ◌<◌, ◌≤◌, List, [], length, pos, IfSome, Some, None, Ok, Err, Option, Result, unwrap_or, sym, refl, ap, ◌∙◌, arith}
 use Rattle.std.specs.Result.{result_and}
-use Rattle.std.specs.List.{AllByRecursion as All}
+use Rattle.std.specs.List.{AllByRecursion}
 use Rattle.std.proofs.lemmas.Bool.Decides.{nat_tests}
 use Rattle.writing.specs.declared.lent.LentFault.{LentFault}
 use Rattle.stroke.specs.Contents.{Contents, Sound, limit}
@@ -67,7 +67,7 @@ refused a b room f none =
     ap (λ r. result_and r (Ok m)) none ∙ and_and (spans a b) (lengths a b room) (limits a b) (Ok m)
 
 -- ---- both lags are best
-pressure_best : (o u : Option (List ℕ)) (n : ℕ) → 0 < n → IfSome o (λ us. (length us ≡ n) × All (λ u. u ≤ limit) us)
+pressure_best : (o u : Option (List ℕ)) (n : ℕ) → 0 < n → IfSome o (λ us. (length us ≡ n) × AllByRecursion (λ u. u ≤ limit) us)
     → IfSome (pressure_lag o u) (LeastBest (λ lag. pos (pressure_match (unwrap_or o []) (unwrap_or u []) lag)) n)
 pressure_best (Some p) (Some q) n some long = rw long.0 (least_best (λ lag. pos (pressure_match p q lag)) n some)
 pressure_best (Some p) None n some long = tt

@@ -1,7 +1,7 @@
 -- The lagged sums of the path arithmetic, read as signed, are those over the whole numbers: these are within half the modulus.
 use Rattle.std.proofs.Common.{◌≡◌, ℕ, suc, ◌+◌, ◌-◌, ◌*◌, ◌%◌, ◌<◌, ◌≤◌, Bool, true, false, cond, ltb, List, map, length, get_or, ℤ, pos, negsuc, ◌+ℤ◌, ◌-ℤ◌, ◌*ℤ◌, neg_ℤ, nat_abs, refl, ap, ◌∙◌, add-zero, mod-lt, arith, lit<, w64, SFits}
 use lib.IntN.{+ℤ_idl}
-use Rattle.std.specs.List.{range_with_len, AllByRecursion as All}
+use Rattle.std.specs.List.{range_with_len, AllByRecursion}
 use Rattle.std.proofs.lemmas.Nat.{mul-le}
 use Rattle.std.proofs.lemmas.List.FromFn.{length-map-range_with_len, get_or-map-range_with_len, fill_by_all}
 use Rattle.std.proofs.lemmas.List.{get_or-map, length-map}
@@ -92,8 +92,8 @@ same_pair : {x y z w : ℤ} → x ≡ z → y ≡ w → ◌≡◌ {A = ℤ × �
 same_pair p q = cc
 
 -- ---- two paths within limits, of one length
-module _ (a b : List (ℤ × ℤ)) (same : length b ≡ length a) (few : length a ≤ most_samples) (near_a : All Near a) (near_b : All Near b) where
-  near : (xs : List (ℤ × ℤ)) → All Near xs → (t : ℕ) → Near (get_or xs t origin)
+module _ (a b : List (ℤ × ℤ)) (same : length b ≡ length a) (few : length a ≤ most_samples) (near_a : AllByRecursion Near a) (near_b : AllByRecursion Near b) where
+  near : (xs : List (ℤ × ℤ)) → AllByRecursion Near xs → (t : ℕ) → Near (get_or xs t origin)
   near xs h = all_at Near xs origin (omega arith, omega arith) h
 
   small : (lag : ℕ) → (nat_abs (match_at a b lag).0 ≤ half) × (nat_abs (match_at a b lag).1 ≤ half)

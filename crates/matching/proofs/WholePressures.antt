@@ -1,7 +1,7 @@
 -- The lagged sums of the pressure arithmetic are those over the whole numbers: these are below the modulus.
 use Rattle.std.proofs.Common.{◌≡◌, ℕ, ◌+◌, ◌*◌, ◌%◌, ◌<◌, ◌≤◌, List, length, get_or, pos, refl, ap, ◌∙◌, zero-le, mod-lt, mod-eq_of_lt, zero-add, arith}
 use native.Mathlib.Nat.{mod-mod}
-use Rattle.std.specs.List.{AllByRecursion as All}
+use Rattle.std.specs.List.{AllByRecursion}
 use Rattle.std.proofs.lemmas.Nat.{mul-le}
 use Rattle.std.proofs.lemmas.List.{get_or-map, length-map}
 use Rattle.algebra.proofs.Remainders.{same_sum, same_product}
@@ -30,8 +30,8 @@ unfolding read_pressures
 pressure_read a b lag x n sum read = read ∙ ap (λ (y : Pressure). y.word % modulus) sum
 
 -- two lists of pressures within limits, of one length
-module _ (p q : List ℕ) (same : length q ≡ length p) (few : length p ≤ most_samples) (low_p : All (λ u. u ≤ limit) p) (low_q : All (λ u. u ≤ limit) q) where
-  low : (us : List ℕ) → All (λ u. u ≤ limit) us → (t : ℕ) → get_or us t 0 ≤ limit
+module _ (p q : List ℕ) (same : length q ≡ length p) (few : length p ≤ most_samples) (low_p : AllByRecursion (λ u. u ≤ limit) p) (low_q : AllByRecursion (λ u. u ≤ limit) q) where
+  low : (us : List ℕ) → AllByRecursion (λ u. u ≤ limit) us → (t : ℕ) → get_or us t 0 ≤ limit
   low us h = all_at (λ u. u ≤ limit) us 0 zero-le h
 
   small : (lag : ℕ) → pressure_match p q lag < modulus

@@ -1,6 +1,6 @@
 // The matches of two paths: lagged sums in the path arithmetic, read as whole numbers.
 ghost use Rattle.std.specs.Prelude.{◌≡◌, ◌≤◌, map, length, take, neg_ℤ, int_lt, unsigned_abs};
-ghost use Rattle.std.specs.List.{range_with_len, AllByRecursion as All};
+ghost use Rattle.std.specs.List.{range_with_len, AllByRecursion};
 ghost use Rattle.stroke.specs.Contents.{limit, most_samples, Near};
 ghost use Rattle.path.specs.Paths.{sampled};
 ghost use Rattle.matching.specs.Lags.{match_at, matches, best_first};
@@ -56,7 +56,7 @@ fn conjugate(x: i16, y: i16) -> Path
 // Each sample's conjugate, in front.
 fn conjugates(path: &[(i16, i16)]) -> [Path; MOST_SAMPLES]
     requires few { length path.now ≤ most_samples }
-    requires near { All Near path.now }
+    requires near { AllByRecursion Near path.now }
     ensures answer { take (length path.now) result ≡ entered_conj path.now }
 {
     let mut out = [Path { u: 0, v: 0 }; MOST_SAMPLES];
@@ -94,7 +94,7 @@ fn every_sum(a: &[Path], b: &[Path], out: &mut [(i64, i64)]) -> usize
 // The match of every lag into `out`; answers the least lag of the largest first part.
 pub(crate) fn match_paths(a: &[(i16, i16)], b: &[(i16, i16)], out: &mut [(i64, i64)]) -> usize
     requires paired { Paired a.now b.now 0 }
-    requires near { (All Near a.now) × (All Near b.now) }
+    requires near { (AllByRecursion Near a.now) × (AllByRecursion Near b.now) }
     requires whole { length out.old ≡ length a.now }
     ensures answer { result ≡ best_first (match_at a.now b.now) (length a.now) }
     ensures after { out.new ≡ matches a.now b.now }

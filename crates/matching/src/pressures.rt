@@ -1,6 +1,6 @@
 // The best lag of two lists of pressures: lagged sums in the pressure arithmetic, read as whole numbers.
 ghost use Rattle.std.specs.Prelude.{◌≡◌, ◌≤◌, length, take};
-ghost use Rattle.std.specs.List.{AllByRecursion as All};
+ghost use Rattle.std.specs.List.{AllByRecursion};
 ghost use Rattle.stroke.specs.Contents.{limit, most_samples};
 ghost use Rattle.matching.specs.Lags.{pressure_match, best_count};
 ghost use Rattle.matching.specs.Readings.{Paired, read_pressures, entered_pressures};
@@ -42,7 +42,7 @@ fn best_lag(a: &[Pressure], b: &[Pressure]) -> usize
 // The least lag of the largest match of pressures.
 pub(crate) fn match_pressures(p: &[u16], q: &[u16]) -> usize
     requires paired { Paired p.now q.now 0 }
-    requires low { (All (λ u. u ≤ limit) p.now) × (All (λ u. u ≤ limit) q.now) }
+    requires low { (AllByRecursion (λ u. u ≤ limit) p.now) × (AllByRecursion (λ u. u ≤ limit) q.now) }
     ensures answer { result ≡ best_count (pressure_match p.now q.now) (length p.now) }
 {
     let n = p.len();

@@ -1,6 +1,6 @@
 -- The rule of bisection, computed over the whole quarter.
 use Rattle.std.proofs.Common.{◌≡◌, ℕ, zero, suc, ◌+◌, ◌-◌, ◌*◌, ◌/◌, ◌^◌, ◌<◌, ◌≤◌, Bool, true, false, cond, T, eqb, ltb, leb, List, [], ◌∷◌, ℤ, pos, negsuc, ◌+ℤ◌, nat_abs, sym, ap, mul-le-mul_right, le-div_iff_mul-le, arith, eqb→eq, ltb→lt, lt→ltb, leb→le}
-use Rattle.std.specs.List.{AllByRecursion as All}
+use Rattle.std.specs.List.{AllByRecursion}
 use Rattle.algebra.proofs.Ranges.{both, both_first, both_second, implies, implies_second, below, below_at}
 use Rattle.quarter.specs.Table.{quarter_table}
 use Rattle.quarter.specs.Entries.{S, quarter, entry}
@@ -82,7 +82,7 @@ by_each : List ℕ → Bool
 by_each [] = true
 by_each (h ∷ hs) = both (by h) (by_each hs)
 
-each_bisects : (hs : List ℕ) → T (by_each hs) → All BisectsBy hs
+each_bisects : (hs : List ℕ) → T (by_each hs) → AllByRecursion BisectsBy hs
 unfolding by_each
 each_bisects [] t = tt
 each_bisects (h ∷ hs) t = (by_bisects h (both_first (by h) _ t), each_bisects hs (both_second (by h) _ t))
@@ -91,5 +91,5 @@ steps_pass : T (by_each steps)
 unfolding by_each by odd_test test sum_c sum_s root_of root right is quarter_table
 steps_pass = tt
 
-pub table_bisects : All BisectsBy steps
+pub table_bisects : AllByRecursion BisectsBy steps
 table_bisects = each_bisects steps steps_pass

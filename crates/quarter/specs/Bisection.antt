@@ -1,6 +1,6 @@
 -- The rule that makes the table: both ends, then each entry from the two that lie as far before and after it.
 use Rattle.std.specs.Prelude.{◌≡◌, ℕ, ◌+◌, ◌-◌, ◌*◌, ◌/◌, ◌%◌, ◌<◌, ◌≤◌, List, [], ◌∷◌, pos, ◌+ℤ◌}
-use Rattle.std.specs.List.{AllByRecursion as All}
+use Rattle.std.specs.List.{AllByRecursion}
 use Rattle.quarter.specs.Entries.{S, circle, quarter, entry, onward}
 
 -- r is the square root of n, rounded down
@@ -31,6 +31,6 @@ steps = 64 ∷ 32 ∷ 16 ∷ 8 ∷ 4 ∷ 2 ∷ 1 ∷ []
 pub record Circle : Type 0 where
   pub starts : entry 0 ≡ (pos S, pos 0)
   pub ends : entry quarter ≡ (pos 0, pos S)
-  pub bisects : All BisectsBy steps
+  pub bisects : AllByRecursion BisectsBy steps
   pub goes_on : (j : ℕ) → entry (j + quarter) ≡ onward (entry j)
   pub goes_round : (e : ℕ) → entry (e % circle) ≡ entry e

@@ -1,6 +1,6 @@
 -- The bytes that are granted are a file of the stroke that is read.
 use Rattle.std.proofs.Common.{◌≡◌, ℕ, zero, suc, ◌+◌, ◌-◌, ◌*◌, ◌<◌, ◌≤◌, Bool, true, false, cond, eqb, List, [], ◌∷◌, ◌++◌, map, length, get_or, take, drop, pos, Some, None, Ok, Option, sym, refl, ap, ◌∙◌, subst, add_assoc, arith}
-use Rattle.std.specs.List.{between, range_with_len, AllByRecursion as All}
+use Rattle.std.specs.List.{between, range_with_len, AllByRecursion}
 use Rattle.std.proofs.lemmas.List.FromFn.{get_or-map-range_with_len}
 use Rattle.std.proofs.lemmas.List.Edits.{length-between}
 use Rattle.std.proofs.ByRecursion.{All-take, All-drop}
@@ -19,7 +19,7 @@ use Rattle.stroke.proofs.Encoded.{length_sample}
 use Rattle.stroke.proofs.Rows.{rows_are}
 use Rattle.stroke.proofs.Words.{two_bytes_are, four_bytes_are, signed_bytes_are}
 
-byte_at : (bs : List ℕ) → All (λ b. b < 256) bs → (k : ℕ) → get_or bs k 0 < 256
+byte_at : (bs : List ℕ) → AllByRecursion (λ b. b < 256) bs → (k : ℕ) → get_or bs k 0 < 256
 byte_at bs h = all_at (λ b. b < 256) bs 0 (omega arith) h
 
 -- the k bytes at the end
@@ -119,7 +119,7 @@ trailer_same : (d e m n : ℕ) (p q : Bool) → d ≡ e → m ≡ n → p ≡ q 
 trailer_same d e m n p q same_d same_n same_p = rw (same_d, same_n, same_p)
 
 -- bs, whose trailer is in order and whose stroke has no field beyond its limits
-module _ (bs : List ℕ) (bytes : All (λ b. b < 256) bs) (order : InOrder bs) (none : first_beyond (stroke_in bs) ≡ None) where
+module _ (bs : List ℕ) (bytes : AllByRecursion (λ b. b < 256) bs) (order : InOrder bs) (none : first_beyond (stroke_in bs) ≡ None) where
   part_length : length (samples_in bs) ≡ distance_in bs
   part_length = length-between bs (start_in bs) (trailer_in bs) (omega arith) ∙ omega (arith, order.room)
 

@@ -1,6 +1,6 @@
 -- A stroke is sound exactly where no field of it is beyond its limits, given its length and its pressures' number.
 use Rattle.std.proofs.Common.{◌≡◌, ℕ, zero, suc, ◌+◌, ◌<◌, ◌≤◌, List, [], length, get_or, ℤ, pos, nat_abs, IfSome, Some, None, Option, unwrap_or, refl, ap, ⊎_elim, zero-le, eq-or-lt_of_le, arith}
-use Rattle.std.specs.List.{slice_get, AllByRecursion as All}
+use Rattle.std.specs.List.{slice_get, AllByRecursion}
 use Rattle.std.proofs.ByRecursion.{All-from_get_or}
 use Rattle.std.proofs.lemmas.Bool.Decides.{nat_tests}
 use Rattle.stroke.specs.Contents.{Contents, Sound, Near, limit, most_samples, path_at, pressures, field_beyond, beyond_at, here_or, beyond_from, first_beyond}
@@ -37,11 +37,11 @@ module _ (c : Contents) (some : 0 < length c.path) (most : length c.path ≤ mos
   kept : (i : ℕ) → i < length c.path → (nat_abs (path_at c i).0 ≤ limit) × (nat_abs (path_at c i).1 ≤ limit) × (get_or (pressures c) i 0 ≤ limit)
   kept i h = limits_kept (path_at c i).0 (path_at c i).1 (get_or (pressures c) i 0) (none_each c (length c.path) 0 none i (omega arith) (omega arith))
 
-  near : All Near c.path
+  near : AllByRecursion Near c.path
   near = All-from_get_or Near c.path (pos 0, pos 0) (λ i h. let k = kept i h in (k.0, k.1))
 
   pressed : (o : Option (List ℕ)) → c.pressure ≡ o → IfSome o (λ us. length us ≡ length c.path)
-      → IfSome o (λ us. (length us ≡ length c.path) × All (λ u. u ≤ limit) us)
+      → IfSome o (λ us. (length us ≡ length c.path) × AllByRecursion (λ u. u ≤ limit) us)
   pressed None e n = tt
   pressed (Some us) e n =
       (n, All-from_get_or (λ u. u ≤ limit) us 0 (λ i h. let k = (kept i (omega arith)).2 in rw (ap (λ o. unwrap_or o []) e) at k))
@@ -52,7 +52,7 @@ module _ (c : Contents) (some : 0 < length c.path) (most : length c.path ≤ mos
 pub near_at : (c : Contents) → Sound c → (i : ℕ) → Near (path_at c i)
 near_at c h = all_at Near c.path (pos 0, pos 0) (omega arith, omega arith) h.near
 
-low_pressure : (n : ℕ) (o : Option (List ℕ)) → IfSome o (λ us. (length us ≡ n) × All (λ u. u ≤ limit) us) → (i : ℕ) → get_or (unwrap_or o []) i 0 ≤ limit
+low_pressure : (n : ℕ) (o : Option (List ℕ)) → IfSome o (λ us. (length us ≡ n) × AllByRecursion (λ u. u ≤ limit) us) → (i : ℕ) → get_or (unwrap_or o []) i 0 ≤ limit
 low_pressure n None h i = zero-le
 low_pressure n (Some us) h i = all_at (λ u. u ≤ limit) us 0 zero-le h.1 i
 

@@ -6,7 +6,7 @@
 -- field     one count of a sample: 0 is x, 1 is y, 2 is the pressure
 use Rattle.std.specs.Prelude.{◌≡◌, ℕ, zero, suc, ◌+◌, ◌<◌, ◌≤◌, cond, List, [], length, ℤ, pos, IfSome, Some, None, Option, nat_lt, slice_index, slice_index_or, unsigned_abs}
 use Rattle.std.specs.Option.{unwrap_or}
-use Rattle.std.specs.List.{AllByRecursion as All}
+use Rattle.std.specs.List.{AllByRecursion}
 
 pub record Contents : Type 0 where
   pub path : List (ℤ × ℤ)
@@ -28,8 +28,8 @@ Near p = (unsigned_abs p.0 ≤ limit) × (unsigned_abs p.1 ≤ limit)
 pub record Sound (c : Contents) : Type 0 where
   pub some : 0 < length c.path
   pub most : length c.path ≤ most_samples
-  pub near : All Near c.path
-  pub pressed : IfSome c.pressure (λ us. (length us ≡ length c.path) × All (λ u. u ≤ limit) us)
+  pub near : AllByRecursion Near c.path
+  pub pressed : IfSome c.pressure (λ us. (length us ≡ length c.path) × AllByRecursion (λ u. u ≤ limit) us)
 
 -- x and y of sample i
 abbrev pub path_at : Contents → ℕ → ℤ × ℤ

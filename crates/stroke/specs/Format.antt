@@ -1,6 +1,6 @@
 -- What stands above reading: a file is granted exactly where it is the file of a stroke, and as that stroke.
 use Rattle.std.specs.Prelude.{◌≡◌, ℕ, ◌+◌, ◌<◌, List, Some, None, Ok, Err}
-use Rattle.std.specs.List.{AllByRecursion as All}
+use Rattle.std.specs.List.{AllByRecursion}
 use Rattle.stroke.specs.declared.fault.FileFault.TheVariants.{Field}
 use Rattle.stroke.specs.Contents.{Contents, beyond_at}
 use Rattle.stroke.specs.Layout.{field_at}
@@ -9,7 +9,7 @@ use Rattle.stroke.specs.Writing.{FileOf}
 
 -- the bytes that are granted are a file of the stroke that is read
 abbrev pub Granted : Type 0
-Granted = (bs : List ℕ) (c : Contents) → All (λ b. b < 256) bs → decode bs ≡ Ok c → FileOf c bs
+Granted = (bs : List ℕ) (c : Contents) → AllByRecursion (λ b. b < 256) bs → decode bs ≡ Ok c → FileOf c bs
 
 -- every file of a stroke is granted, and read as that stroke
 abbrev pub ReadsBack : Type 0

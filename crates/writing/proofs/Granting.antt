@@ -1,6 +1,6 @@
 -- A lent stroke passes both tests exactly where it is sound.
 use Rattle.std.proofs.Common.{◌≡◌, ℕ, ◌<◌, ◌≤◌, true, List, length, IfSome, Some, None, Ok, Option, refl, ap, arith}
-use Rattle.std.specs.List.{AllByRecursion as All}
+use Rattle.std.specs.List.{AllByRecursion}
 use Rattle.std.proofs.lemmas.Bool.Decides.{nat_tests}
 use Rattle.stroke.specs.Contents.{Contents, Sound, limit, most_samples, first_beyond}
 use Rattle.writing.specs.Lending.{as_many, sized, unless_found, within_limits}
@@ -14,7 +14,7 @@ many : (o : Option (List ℕ)) (n : ℕ) → as_many o n ≡ true → IfSome o (
 many None n e = tt
 many (Some us) n e = grind (arith, nat_tests)
 
-many_are : (o : Option (List ℕ)) (n : ℕ) → IfSome o (λ us. (length us ≡ n) × All (λ u. u ≤ limit) us) → as_many o n ≡ true
+many_are : (o : Option (List ℕ)) (n : ℕ) → IfSome o (λ us. (length us ≡ n) × AllByRecursion (λ u. u ≤ limit) us) → as_many o n ≡ true
 many_are None n h = refl
 many_are (Some us) n h = let e = h.0 in grind (arith, nat_tests)
 

@@ -1,7 +1,7 @@
 -- What write answers and leaves behind, and that reading undoes it.
 use Rattle.std.specs.Prelude.{◌≡◌, ℕ, ◌+◌, ◌<◌, ◌≤◌, cond, List, ◌++◌, length, take, drop, is_ok, Ok, Err, Result, nat_lt}
 use Rattle.std.specs.Result.{result_and}
-use Rattle.std.specs.List.{AllByRecursion as All}
+use Rattle.std.specs.List.{AllByRecursion}
 use Rattle.writing.specs.declared.lent.LentFault.{LentFault}
 use Rattle.writing.specs.declared.lent.LentFault.TheVariants.{Room}
 use Rattle.stroke.specs.Contents.{Contents}
@@ -33,4 +33,4 @@ pub record NotesThenWritten (c : Contents) (bs : List ℕ) : Type 0 where
 
 -- every file that is granted is notes, then what write would write of the stroke that is read
 abbrev pub GrantedAsWritten : Type 0
-GrantedAsWritten = (bs : List ℕ) (c : Contents) → All (λ b. b < 256) bs → decode bs ≡ Ok c → NotesThenWritten c bs
+GrantedAsWritten = (bs : List ℕ) (c : Contents) → AllByRecursion (λ b. b < 256) bs → decode bs ≡ Ok c → NotesThenWritten c bs
