@@ -1,9 +1,9 @@
 #!/usr/bin/env python3
 """Holds the C interface against the program `tones` and against the second program, from C.
 
-    rt check tones && rt staticlib driver && python3 tools/compare.py
+    python3 tools/compare.py
 
-Builds examples/*.c with clang or gcc, runs examples/tones.c and target/bin/tones on the gate's stroke files and on many
+Proves and builds the library and tones where they have changed, and builds examples/*.c with clang or gcc. Runs examples/tones.c and tones on the gate's stroke files and on many
 that are made or damaged here, and compares what they print and how they end. Then it runs examples/calls.c, which
 makes calls of every kind, and compares what that prints with the numbers of the second program.
 """
@@ -16,8 +16,16 @@ import tempfile
 import reference
 
 ROOT = os.path.dirname(os.path.dirname(os.path.abspath(__file__)))
-LIBRARY = os.path.join(ROOT, "target/staticlib/libdriver.a")
-PROGRAM = os.path.join(ROOT, "target/bin/tones")
+LIBRARY = os.path.join(ROOT, "crates/driver/out/libdriver.a")
+PROGRAM = os.path.join(ROOT, "crates/tones/out/tones")
+
+
+def proved(crate, *words):
+    """Proves and builds a crate where it has changed."""
+    with open(os.path.join(ROOT, "samples/four.stroke"), "rb") as sample:
+        result = subprocess.run(["rt", *words], cwd=os.path.join(ROOT, "crates", crate), stdin=sample, capture_output=True, check=False)
+    if result.returncode != 0:
+        sys.exit(result.stdout.decode() + result.stderr.decode() + f"{crate} was not built")
 
 
 def build(name, folder):
@@ -189,6 +197,8 @@ def compare_calls(folder):
 
 
 def main():
+    proved("driver", "lib")
+    proved("tones", "run")
     with tempfile.TemporaryDirectory() as folder:
         compare_tones(folder)
         compare_calls(folder)

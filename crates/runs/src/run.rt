@@ -1,5 +1,5 @@
 // A transform under way, one stage at a poll. The calls whose clauses cite what a run is stand in a module below.
-ghost use Rattle.std.specs.Prelude.{◌≡◌, ◌*◌, ◌≤◌, drop};
+ghost use Rattle.std.specs.Prelude.{◌≡◌, ◌*◌, ◌≤◌, IsTrue, drop};
 ghost use Rattle.plan.specs.Radices.{size, radix_sum, most_radices, largest_size, Each};
 ghost use Rattle.runs.specs.Packed.{unpacked};
 
@@ -17,6 +17,8 @@ pub struct Run {
     part: usize,
     // The turns that those stages made.
     turns: usize,
+    // Whether it was ended, so that it may be let go. No contract of a call says so of the run that it hands out.
+    ended: bool,
     ghost few: { count ≤ most_radices },
     ghost each: { Each (unpacked count radices) },
     ghost whole: { len ≡ size (unpacked count radices) },
@@ -34,19 +36,12 @@ impl Run {
         self.left
     }
 
-    // Takes the run apart. What is left of it are the turns.
-    fn spend(self) -> usize
+    // Ends the run. What is left of it are the turns.
+    fn spend(mut self) -> usize
         ensures answer { result ≡ self.turns }
     {
-        let Run {
-            radices: _,
-            count: _,
-            len: _,
-            left: _,
-            part: _,
-            turns,
-        } = self;
-        turns
+        self.ended = true;
+        self.turns
     }
 }
 
@@ -54,8 +49,16 @@ impl Drop for Run {
     // A run that is still held is not spent: only finishing and giving up spend one, and no other way to let it go is
     // proved.
     fn drop(self)
-        requires { ⊥ }
+        requires { IsTrue self.ended }
     {
-        self.spend();
+        let Run {
+            radices: _,
+            count: _,
+            len: _,
+            left: _,
+            part: _,
+            turns: _,
+            ended: _,
+        } = self;
     }
 }

@@ -25,6 +25,7 @@ impl Run {
             left: count,
             part: 1,
             turns: 0,
+            ended: false,
         }
     }
 
