@@ -15,8 +15,8 @@ import sys
 TOKEN = re.compile(r"[^\s:(){}.,;«»`]+")
 DECLARED = re.compile(r"^\s*(?:(?:pub|abbrev|unfoldable|record|data) )*([^\s:(){}.,;«»]+)(?: \([^)]*\)| \{[^}]*\})* :(?: (.*))?$")
 USE = re.compile(r"^\s*(?:ghost )?(?:pub )?use ([^{\s]+)\.\{([^}]*)\}")
-# Names with a capital inside, of whatever file: an alias that is written as a type is and names a word, the lemmas on two
-# words of the library, and two words whose snake case would fall together with the words of crate refusal on all layers.
+# Names with a capital inside, of whatever file: an alias that is written as a type is and names a word, and the lemmas on
+# two words of the library.
 AS_WORDS = {
     "Laid-on": "laid_on",
     "natAbs_neg": "nat_abs_neg",
@@ -31,9 +31,10 @@ AS_WORDS = {
     "getD-nth": "get_or_nth",
     "getD_map_of": "get_or_map_of",
     "getD-map-of": "get_or_map_of",
-    "numberOf": "file_number",
-    "placeOf": "file_place",
 }
+# Two words of crate stroke whose snake case is that of the words for every layer's refusals, which one file takes beside them.
+APART = {"number_of": "file_number", "place_of": "file_place"}
+APART_FROM = "Rattle.stroke.specs.Faults"
 
 
 def read(path):
@@ -111,8 +112,12 @@ def main():
         text = read(path)
         theirs, _ = library_names(text, crates)
 
+        apart = path.startswith("crates/stroke/") or re.search(re.escape(APART_FROM) + r"\.\{[^}]*\b(number_of|place_of)\b", text)
+
         def turn(m):
             w = m.group(0)
+            if apart and w in APART:
+                return APART[w]
             step = is_answer(path) and re.search(r"(?<![^\s(])[cw]\.$", m.string[: m.start()])
             return turned(w) if w in names and w not in theirs and not step else w
 
