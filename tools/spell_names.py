@@ -32,7 +32,7 @@ AS_WORDS = {
     "getD_map_of": "get_or_map_of",
     "getD-map-of": "get_or_map_of",
 }
-# Two words of crate stroke whose snake case is that of the words for every layer's refusals, which one file takes beside them.
+# Two words of crate stroke have the names of the words for every layer's refusals. The file that has both calls them thus.
 APART = {"number_of": "file_number", "place_of": "file_place"}
 APART_FROM = "Rattle.stroke.specs.Faults"
 
@@ -112,12 +112,12 @@ def main():
         text = read(path)
         theirs, _ = library_names(text, crates)
 
-        apart = path.startswith("crates/stroke/") or re.search(re.escape(APART_FROM) + r"\.\{[^}]*\b(number_of|place_of)\b", text)
+        apart = not path.startswith("crates/stroke/") and APART_FROM + ".{number_of, place_of}" in text
 
         def turn(m):
             w = m.group(0)
             if apart and w in APART:
-                return APART[w]
+                return f"{w} as {APART[w]}" if APART_FROM in m.string else APART[w]
             step = is_answer(path) and re.search(r"(?<![^\s(])[cw]\.$", m.string[: m.start()])
             return turned(w) if w in names and w not in theirs and not step else w
 

@@ -1,6 +1,6 @@
 -- The number, the layer and the place of every refusal.
 use Rattle.std.specs.Prelude.{ℕ}
-use Rattle.stroke.specs.Faults.{file_number, file_place}
+use Rattle.stroke.specs.Faults.{number_of as file_number, place_of as file_place}
 use Rattle.writing.specs.Lending.{lent_number, lent_place}
 use Rattle.plan.specs.Faults.{fault_number, fault_place}
 use Rattle.refusal.specs.declared.Fault.{Fault}

@@ -3,7 +3,7 @@ use Rattle.std.proofs.Common.{◌≡◌, ℕ, ◌*◌, ◌<◌, ◌≤◌, List,
 use Rattle.std.proofs.lemmas.Bool.Decides.{nat_tests}
 use Rattle.stroke.specs.declared.fault.FileFault.{FileFault}
 use Rattle.stroke.specs.Contents.{Contents, most_samples, first_beyond}
-use Rattle.stroke.specs.Faults.{file_number}
+use Rattle.stroke.specs.Faults.{number_of}
 use Rattle.stroke.specs.Layout.{most_bytes, version, trailer_size, sample_size}
 use Rattle.stroke.specs.Reading.{distance_in, count_in, flag_in, version_in, pressed_in, trailer_in, stroke_in, unless_beyond, decode}
 
@@ -25,7 +25,7 @@ decode_in_order bs h = grind (arith, nat_tests)
 -- 16 of what is granted, or else the number of the refusal
 abbrev pub rank : Result Contents FileFault → ℕ
 rank (Ok c) = 16
-rank (Err e) = file_number e
+rank (Err e) = number_of e
 
 pub in_order : (bs : List ℕ) → rank (decode bs) ≡ 16 → InOrder bs
 in_order bs e =

@@ -1,6 +1,6 @@
 // Why a file is refused.
 ghost use Rattle.std.specs.Prelude.{◌≡◌};
-ghost use Rattle.stroke.specs.Faults.{file_number, file_place};
+ghost use Rattle.stroke.specs.Faults.{number_of, place_of};
 
 // The offset in a case is that of the offending byte or field in the file.
 #[derive(Clone, Copy, Debug, PartialEq, Eq)]
@@ -16,7 +16,7 @@ pub enum FileFault {
 
 impl FileFault {
     pub fn number(self) -> u8
-        ensures { result ≡ file_number self }
+        ensures { result ≡ number_of self }
     {
         match self {
             FileFault::Size => 11,
@@ -29,7 +29,7 @@ impl FileFault {
     }
 
     pub fn place(self) -> usize
-        ensures { result ≡ file_place self }
+        ensures { result ≡ place_of self }
     {
         match self {
             FileFault::Version(at) | FileFault::Flag(at) | FileFault::Field(at) => at,
