@@ -3,9 +3,10 @@
 
     python3 tools/compare.py
 
-Proves and builds the library and tones where they have changed, and builds examples/*.c with clang or gcc. Runs examples/tones.c and tones on the gate's stroke files and on many
-that are made or damaged here, and compares what they print and how they end. Then it runs examples/calls.c, which
-makes calls of every kind, and compares what that prints with the numbers of the second program.
+Proves and builds the library and tones where they have changed, and builds examples/*.c with clang or gcc. Runs
+examples/tones.c and tones on the gate's stroke files and on many that are made or damaged here, and compares what they
+print and how they end. Then it runs examples/calls.c, which makes calls of every kind, and compares what that prints with
+the numbers of the second program.
 """
 import os
 import shutil
@@ -23,7 +24,8 @@ PROGRAM = os.path.join(ROOT, "crates/tones/out/tones")
 def proved(crate, *words):
     """Proves and builds a crate where it has changed."""
     with open(os.path.join(ROOT, "samples/four.stroke"), "rb") as sample:
-        result = subprocess.run(["rt", *words], cwd=os.path.join(ROOT, "crates", crate), stdin=sample, capture_output=True, check=False)
+        folder = os.path.join(ROOT, "crates", crate)
+        result = subprocess.run(["rt", *words], cwd=folder, stdin=sample, capture_output=True, check=False)
     if result.returncode != 0:
         sys.exit(result.stdout.decode() + result.stderr.decode() + f"{crate} was not built")
 
