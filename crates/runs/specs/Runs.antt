@@ -1,5 +1,5 @@
 -- Runs: what is seen of one, what each of its calls makes of it, and which calls are refused.
-use Rattle.std.specs.Prelude.{ℕ, ◌+◌, ◌-◌, ◌*◌, cond, List, length, drop, Ok, Err, Result, ◌==◌, slice_index}
+use Rattle.std.specs.Prelude.{◌≡◌, false, ℕ, ◌+◌, ◌-◌, ◌*◌, cond, List, length, drop, Ok, Err, Result, ◌==◌, slice_index}
 use Rattle.std.specs.Result.{result_and, result_map_both}
 use Rattle.plan.specs.Radices.{size, radix_sum}
 use Rattle.refusal.specs.declared.Fault.{Fault}
@@ -20,6 +20,10 @@ pub record Seen : Type 0 where
 
 abbrev pub seen : Run → Seen
 seen run = record { plan = plan_of run; left = run.left; turns = run.turns }
+
+-- a run that is held: it was not ended, so it may not be let go
+abbrev pub IsHeld : Run → Type 0
+IsHeld run = run.ended ≡ false
 
 -- the radix whose stage is next: the last of those that are left
 abbrev pub next_radix : Run → ℕ

@@ -1,8 +1,8 @@
 // Runs that are driven from their samples on: part of the way, and all of it.
-ghost use Rattle.std.specs.Prelude.{◌≡◌, length, take, drop, replicate, is_ok, if◌then◌else◌, MatchResult};
+ghost use Rattle.std.specs.Prelude.{◌≡◌, length, take, drop, replicate, is_ok, IfOk, if◌then◌else◌, MatchResult};
 ghost use Rattle.spectra.specs.Tones.{tones};
 ghost use Rattle.spectrum.specs.Granted.{transformed};
-ghost use Rattle.runs.specs.Runs.{as_seen, begun, polled_run};
+ghost use Rattle.runs.specs.Runs.{as_seen, IsHeld, begun, polled_run};
 ghost use Rattle.spectra.specs.ByBlocks.{ByBlocks};
 
 use crate::run::Run;
@@ -19,6 +19,7 @@ pub fn poll<X: Arithmetic>(
     work: &mut [X],
 ) -> Result<Run, Fault>
     ensures answer { as_seen result ≡ begun X.Arithmetic.meaning.span radices.now (length buf.old) (length work.old) (polled_run radices.now polls) }
+    ensures held { IfOk result IsHeld }
     ensures after { MatchResult result (λ run. ByBlocks X.Arithmetic.meaning (take run.left radices.now) (drop run.left radices.now) buf.old buf.new) (λ _. buf.new ≡ buf.old) }
     ensures work { work.new ≡ (if is_ok result then replicate (length work.old) X.Arithmetic.meaning.zero else work.old) }
 {

@@ -17,7 +17,7 @@ pub struct Run {
     part: usize,
     // The turns that those stages made.
     turns: usize,
-    // Whether it was ended, so that it may be let go. No contract of a call says so of the run that it hands out.
+    // Whether it was ended, so that it may be let go. No run that a call hands out was.
     ended: bool,
     ghost few: { count ≤ most_radices },
     ghost each: { Each (unpacked count radices) },

@@ -1,9 +1,9 @@
 // The calls of a run: dealing begins it, each stage takes it one radix on, and finishing or giving up ends it.
-ghost use Rattle.std.specs.Prelude.{◌≡◌, ◌*◌, ◌<◌, length, replicate, is_ok, if◌then◌else◌};
+ghost use Rattle.std.specs.Prelude.{◌≡◌, ◌*◌, ◌<◌, length, replicate, is_ok, IfOk, if◌then◌else◌};
 ghost use Rattle.plan.specs.Dealing.{dealt};
 ghost use Rattle.plan.specs.Planned.{radices_of};
 ghost use Rattle.spectra.specs.Stages.{staged};
-ghost use Rattle.runs.specs.Runs.{seen, as_seen, next_radix, part_size, begun, fresh, ready as ready_for, onward, stepped, finished, resumed};
+ghost use Rattle.runs.specs.Runs.{seen, as_seen, IsHeld, next_radix, part_size, begun, fresh, ready as ready_for, onward, stepped, finished, resumed};
 
 use super::Run;
 use crate::packing::{packed, radix_before};
@@ -15,6 +15,7 @@ impl Run {
     // The run of a plan, with every stage left.
     fn begin(plan: &Plan) -> Run
         ensures answer { seen result ≡ fresh (radices_of plan.now) }
+        ensures held { IsHeld result }
     {
         let radices = plan.radices();
         let count = radices.len();
@@ -54,6 +55,7 @@ impl Run {
         requires radix { radix ≡ next_radix self }
         requires turns { made ≡ self.len * radix }
         ensures answer { seen result ≡ onward self }
+        ensures held { IsHeld self → IsHeld result }
     {
         self.left -= 1;
         self.part *= radix;
@@ -65,6 +67,7 @@ impl Run {
     // A refusal changes nothing, and a granted call leaves zeros in `work`.
     pub fn deal<X: Arithmetic>(radices: &[u8], buf: &mut [X], work: &mut [X]) -> Result<Run, Fault>
         ensures answer { as_seen result ≡ begun X.Arithmetic.meaning.span radices.now (length buf.old) (length work.old) (fresh radices.now) }
+        ensures held { IfOk result IsHeld }
         ensures after { buf.new ≡ (if is_ok result then dealt X.Arithmetic.meaning.zero radices.now buf.old else buf.old) }
         ensures work { work.new ≡ (if is_ok result then replicate (length work.old) X.Arithmetic.meaning.zero else work.old) }
     {
@@ -76,6 +79,7 @@ impl Run {
     // a run itself, and holds these numbers instead.
     pub fn resume(radices: &[u8], done: usize) -> Result<Run, Fault>
         ensures answer { as_seen result ≡ resumed radices.now done }
+        ensures held { IfOk result IsHeld }
     {
         let plan = Plan::new(radices)?;
         let mut run = Run::begin(&plan);
@@ -92,6 +96,7 @@ impl Run {
     // leaves zeros in `work`.
     pub fn stage<X: Arithmetic>(self, buf: &mut [X], work: &mut [X]) -> Result<Run, (Run, Fault)>
         ensures answer { as_seen result ≡ stepped X.Arithmetic.meaning.span self (length buf.old) (length work.old) }
+        ensures held { IsHeld self → IfOk result IsHeld }
         ensures after { buf.new ≡ (if is_ok result then staged X.Arithmetic.meaning (next_radix self) (part_size self) buf.old else buf.old) }
         ensures work { work.new ≡ (if is_ok result then replicate (length work.old) X.Arithmetic.meaning.zero else work.old) }
     {

@@ -16,6 +16,7 @@ loop-i-init g c =
       suited_kept _ _ granted c.deal.auto.buf c.deal.auto.work,
       c.min-count.ensures ∙ ap (min c.args.polls) (c.left.ensures.answer ∙ ap (λ s. s.left) is),
       c.in_ok-run.ensures.work ∙ ap (λ n. replicate n m.zero) (sym c.deal.auto.work),
+      c.in_ok-run.ensures.held,
     )
 
 pub unreachable-requires : goal.unreachable-requires
@@ -35,6 +36,7 @@ loop-i-preserved g c =
       suited_kept _ _ inv.1 c.stage.auto.buf c.stage.auto.work,
       inv.2,
       c.in-Ok.ensures.work ∙ ap (λ n. replicate n m.zero) c.loop-i.auto.work,
+      c.in-Ok.ensures.held inv.4,
     )
 
 pub returns : goal.returns
@@ -47,6 +49,7 @@ returns g c =
     let granted = suited_kept (length c.args.buf.now) (length c.args.work.now) inv.1 (sym (c.loop-i.auto.buf ∙ c.deal.auto.buf)) (sym (c.loop-i.auto.work ∙ c.deal.auto.work)) in
     record {
       answer = ap Ok (polled_seen m inv.0 polls times) ∙ suited_answers m.span rs _ _ (polled_run rs polls) granted;
+      held = inv.4;
       after = polled_blocks m inv.0 c.args.buf.now granted.whole c.in_ok-run.ensures.after;
       work = inv.3 ∙ ap (λ n. replicate n m.zero) c.deal.auto.work;
     }

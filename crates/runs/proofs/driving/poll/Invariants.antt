@@ -1,4 +1,5 @@
 use Rattle.std.proofs.Common.{◌≡◌, min, length, replicate}
+use Rattle.runs.specs.Runs.{IsHeld}
 use Rattle.runs.proofs.Underway.{Suited}
 use Rattle.runs.proofs.Polled.{Polled}
 use Rattle.runs.proofs.driving.poll.Given as goal
@@ -10,3 +11,4 @@ invariant-loop-i g l =
     × Suited m.span l.radices (length l.buf) (length l.work)
     × (l.count ≡ min l.polls (length l.radices))
     × (l.work ≡ replicate (length l.initial.work) m.zero)
+    × IsHeld l.run
