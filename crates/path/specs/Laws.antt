@@ -1,23 +1,23 @@
 -- The path arithmetic shows every law: pairs of remainders make a ring, and what the root owes is computed.
-use Rattle.std.specs.Prelude.{◌≡◌, ℕ, zero, suc, ◌+◌, ◌*◌, ◌/◌, ◌%◌, ◌<◌, Bool, false, cond, T, List, [], ◌∷◌, ◌==◌, ◌≢◌, refl}
-use Rattle.std.proofs.Common.{ap, sym, ◌∙◌, add_comm, zero-add, zero-mul, mul-one, add-one, lit<, ne_eqb}
+use Rattle.std.specs.Prelude.{◌≡◌, ℕ, zero, suc, ◌+◌, ◌*◌, ◌/◌, ◌%◌, ◌<◌, Bool, cond, T, List, [], ◌∷◌, refl}
+use Rattle.std.proofs.Common.{ap, sym, ◌∙◌, add_comm, zero-add, zero-mul, mul-one, add-one, lit<, lit≤, ne_eqb}
 use Rattle.std.proofs.Math.Nat.{mod-mod, mod-add-mod}
-use Rattle.std.proofs.lemmas.Bool.{eqb-false}
 use Rattle.algebra.proofs.Ranges.{below}
 use Rattle.algebra.proofs.Primes.{met, at_primes}
 use Rattle.algebra.proofs.Remainders as remainders
 use Rattle.algebra.proofs.Pairs as pairs
 use Rattle.arithmetic.specs.Series.{series}
 use Rattle.arithmetic.specs.Laws.{Prime, Divides, copies, Lawful}
+use Rattle.residues.specs.Residues.{Modulus}
 use Rattle.rooted.proofs.Ring.{Ring, product_value}
 use Rattle.rooted.proofs.Rooted.{Rooted}
 use Rattle.rooted.proofs.Rooted as from_root
 use Rattle.path.specs.declared.Path.{Path}
-use Rattle.path.specs.Paths.{modulus, span, step, span_inverse, residue, times, power, inverse, paths}
+use Rattle.path.specs.Paths.{modulus, span, span_inverse, residue, times, power, inverse, paths}
 
 -- elements with the same words
 pub same_words : {u u' v v' : ℕ} → u ≡ u' → v ≡ v' → ◌≡◌ {A = Path} (record { u = u; v = v }) (record { u = u'; v = v' })
-same_words p q = cc
+same_words p q = λ i. record { u = p i; v = q i }
 
 again : (u v : ℕ) → residue (u % modulus) (v % modulus) ≡ residue u v
 again u v = same_words (mod-mod u modulus) (mod-mod v modulus)
@@ -49,7 +49,7 @@ product_scalar : (a : Path) (n : ℕ) → times a (scalar n) ≡ residue (a.u * 
 product_scalar a n = same_words (pairs.first_scaled modulus above a.u a.v n) (pairs.second_scaled modulus above a.u a.v n)
 
 same_residue : {u u' v v' : ℕ} → u ≡ u' → v ≡ v' → residue u v ≡ residue u' v'
-same_residue p q = cc
+same_residue p q = λ i. residue (p i) (q i)
 
 ring : Ring paths (residue 1 0)
 ring = record {
@@ -82,10 +82,10 @@ copies_of_one (suc (suc n)) =
     ∙ same_words (mod-add-mod (suc n) modulus 1 ∙ ap (λ x. x % modulus) (add-one (suc n))) refl
 
 -- the primes that divide the span
-abbrev primes : List ℕ
+abbrev pub primes : List ℕ
 primes = 2 ∷ 3 ∷ []
 
-tested : T (below (suc span) (met span primes))
+pub tested : T (below (suc span) (met span primes))
 tested = tt
 
 -- the powers by the multiples of span / q sum to zero
@@ -100,14 +100,6 @@ pub power_round : power span ≡ residue 1 0
 unfolding power
 power_round = refl
 
--- elements with other first words
-apart : (a b : Path) → (a.u == b.u) ≡ false → a ≢ b
-apart a b other e = eqb-false a.u b.u other (ap (λ (x : Path). x.u) e)
-
-pub no_sooner : (q : ℕ) → Prime q → Divides q span → power (span / q) ≢ residue 1 0
-unfolding power
-no_sooner = at_primes span primes (lit< tt) tested (λ q. power (span / q) ≢ residue 1 0) (apart _ _ refl, (apart _ _ refl, tt))
-
 inverse_is : (n : ℕ) → Divides n span → times (copies paths n (residue 1 0)) (scalar (inverse n)) ≡ residue 1 0
 inverse_is n divides =
     ap (λ (x : Path). times x (scalar (inverse n))) (copies_of_one n) ∙ product_scalar (residue n 0) (inverse n)
@@ -118,12 +110,11 @@ inverse_is n divides =
 no_inverse : (n : ℕ) → (Divides n span → ⊥) → scalar (inverse n) ≡ residue 0 0
 no_inverse n none = ap (λ (b : Bool). scalar (cond b ((span / n * span_inverse) % modulus) 0)) (ne_eqb (span % n) 0 none)
 
-rooted : Rooted paths
+pub rooted : Rooted paths power
 unfolding power
 rooted = record {
   one = residue 1 0;
   ring = ring;
-  power = power;
   turn_is = λ a e. refl;
   power_zero = refl;
   power_more = λ e. refl;
@@ -142,14 +133,16 @@ rooted = record {
 }
 
 pub lawful : Lawful paths
-lawful = from_root.lawful paths rooted
+lawful = from_root.lawful paths power rooted
 
--- the powers by the multiples of step go on by one factor
-pub power_steps : (e : ℕ) → power (step * suc e) ≡ times (power (step * e)) (power step)
-unfolding rooted
-power_steps e = from_root.power_steps paths rooted step e
+pub modulus_is : Modulus modulus
+modulus_is = record { above_zero = above; small = lit≤ tt }
 
--- a power from one of those, and one of the powers below step
-pub power_of_two_levels : (e : ℕ) → times (power (step * (e % span / step))) (power (e % span % step)) ≡ power e
-unfolding rooted
-power_of_two_levels e = from_root.power_of_two_levels paths rooted step e
+pub span_is : Modulus span
+span_is = record { above_zero = lit< tt; small = lit≤ tt }
+
+pub sums : (e f : ℕ) → times (power e) (power f) ≡ power (e + f)
+sums = from_root.power_sum paths power rooted
+
+pub goes_round : (e : ℕ) → power (e % span) ≡ power e
+goes_round = from_root.power_by_remainder paths power rooted

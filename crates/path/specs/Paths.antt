@@ -1,7 +1,9 @@
 -- The path arithmetic: pairs (u, v) modulo 2^31 - 1, with the product (u u' - v v', u v' + v u'). Assumes nothing.
-use Rattle.std.specs.Prelude.{ℕ, zero, suc, ◌+◌, ◌-◌, ◌*◌, ◌/◌, ◌%◌, ◌^◌, ◌<◌, true, cond, ℤ, pos, negsuc, ◌==◌}
+use Rattle.std.specs.Prelude.{ℕ, zero, suc, ◌+◌, ◌-◌, ◌*◌, ◌%◌, ◌^◌, true, ℤ, pos, negsuc}
 use Rattle.arithmetic.specs.Meaning.{Meaning}
+use Rattle.residues.specs.Residues as residues
 use Rattle.path.specs.declared.Path.{Path}
+use Rattle.path.specs.declared.Reduced.{Reduced}
 
 -- a prime that leaves 3 by 4, so that no square is -1 and the pairs but (0, 0) have inverses
 abbrev pub modulus : ℕ
@@ -15,22 +17,17 @@ span = 4608
 abbrev pub span_inverse : ℕ
 span_inverse = 477684622
 
--- the root's powers come from two tables, of those below step and of those by its multiples
-abbrev pub step : ℕ
-step = 64
-
 -- the element of two numbers, reduced
 abbrev pub residue : ℕ → ℕ → Path
 residue u v = record { u = u % modulus; v = v % modulus }
 
--- both words are below the modulus
-pub record Reduced (a : Path) : Type 0 where
-  pub u_below : a.u < modulus
-  pub v_below : a.v < modulus
+-- the element of two residues
+abbrev pub element : Reduced → Path
+element r = record { u = r.u.word; v = r.v.word }
 
 -- what stands for -n: n and it leave 0
 abbrev pub opposite : ℕ → ℕ
-opposite n = modulus - n % modulus
+opposite = residues.opposite modulus
 
 -- the product
 abbrev pub times : Path → Path → Path
@@ -45,9 +42,9 @@ unfoldable pub power : ℕ → Path
 power zero = residue 1 0
 power (suc e) = times (power e) root
 
--- n's inverse where n divides the span, else 0: n times span / n times the span's inverse leaves 1
+-- n's inverse where n divides the span, else 0
 abbrev pub inverse : ℕ → ℕ
-inverse n = cond (span % n == 0) ((span / n * span_inverse) % modulus) 0
+inverse = residues.inverse modulus span span_inverse
 
 -- the residue of a signed count
 abbrev pub signed : ℤ → ℕ

@@ -1,8 +1,8 @@
 // The path arithmetic: pairs (u, v) modulo 2^31 - 1, turned by the powers of a root.
 #![tactic(auto)]
 
-ghost use Rattle.std.specs.Prelude.{◌≡◌, ◌+◌, ◌*◌, ◌%◌, ◌<◌};
-ghost use Rattle.path.specs.Paths.{modulus, opposite, inverse, signed, sampled, paths};
+ghost use Rattle.std.specs.Prelude.{◌≡◌, ◌+◌, ◌*◌, ◌%◌};
+ghost use Rattle.path.specs.Paths.{modulus, element, opposite, times, inverse, residue, signed, sampled, paths};
 ghost use Rattle.path.specs.Root.{Order};
 ghost use Rattle.path.specs.Worked.{Worked};
 ghost use Rattle.path.specs.Laws;
@@ -10,15 +10,17 @@ ghost use Rattle.path.specs.Laws;
 mod powers;
 
 use arithmetic::Arithmetic;
-use powers::power;
+use rooted::power;
 
 // Both words are taken by 2^31 - 1.
 pub const MODULUS: u64 = 2147483647;
 
-const SPAN: u32 = 4608;
+const SPAN: u64 = 4608;
 
 // The span times this leaves 1 by the modulus.
 const SPAN_INVERSE: u32 = 477684622;
+
+type Residue = residues::Residue<MODULUS>;
 
 // Any two words are an element: its value is what they leave by the modulus.
 #[derive(Clone, Copy, Debug, PartialEq, Eq)]
@@ -38,6 +40,42 @@ impl Path {
             v: signed(y),
         }
     }
+
+    fn reduced(self) -> Reduced
+        ensures answer { element result ≡ residue self.u self.v }
+    {
+        Reduced {
+            u: Residue::of_word(self.u),
+            v: Residue::of_word(self.v),
+        }
+    }
+
+    fn times(self, other: Reduced) -> Reduced
+        ensures answer { element result ≡ times self (element other) }
+    {
+        Reduced {
+            u: first(self, other),
+            v: second(self, other),
+        }
+    }
+}
+
+// An element whose words are below the modulus.
+#[derive(Clone, Copy, Debug, PartialEq, Eq)]
+pub struct Reduced {
+    u: Residue,
+    v: Residue,
+}
+
+impl Reduced {
+    fn path(self) -> Path
+        ensures answer { result ≡ element self }
+    {
+        Path {
+            u: self.u.word,
+            v: self.v.word,
+        }
+    }
 }
 
 // The residue of a signed count: that of -1 is the modulus less 1.
@@ -47,68 +85,25 @@ fn signed(x: i16) -> u32
     i32::from(x).rem_euclid(MODULUS as i32) as u32
 }
 
-fn remainder(n: u64) -> u32
-    ensures answer { result ≡ n % modulus }
+// The first part of the product; the second factor is reduced so that both products fit.
+fn first(a: Path, b: Reduced) -> Residue
+    ensures answer { result.word ≡ (a.u * b.u.word + opposite (a.v * b.v.word)) % modulus }
 {
-    (n % MODULUS) as u32
-}
-
-// What a word leaves: a reduced one itself, with no division.
-fn reduced(word: u32) -> u32
-    ensures answer { result ≡ word % modulus }
-{
-    if (word as u64) < MODULUS {
-        word
-    } else {
-        remainder(word as u64)
-    }
-}
-
-// Reduced words need a subtraction at most, and no division.
-fn plus(a: u32, b: u32) -> u32
-    ensures answer { result ≡ (a + b) % modulus }
-{
-    let sum = a as u64 + b as u64;
-    if sum < MODULUS {
-        sum as u32
-    } else if sum < 2 * MODULUS {
-        (sum - MODULUS) as u32
-    } else {
-        remainder(sum)
-    }
-}
-
-fn opposite(n: u32) -> u64
-    ensures answer { result ≡ opposite n }
-{
-    MODULUS - n as u64 % MODULUS
-}
-
-// The first part of the product of (a, b) with (c, d), which is reduced so that both products fit.
-fn first(a: u32, b: u32, c: u32, d: u32) -> u32
-    requires { (c < modulus) × (d < modulus) }
-    ensures answer { result ≡ (a * c + opposite (b * d)) % modulus }
-{
-    let taken = b as u64 * (MODULUS - d as u64);
-    remainder(a as u64 * c as u64 + taken)
+    let taken = a.v as u64 * (MODULUS - b.v.word as u64);
+    Residue::of(a.u as u64 * b.u.word as u64 + taken)
 }
 
 // The second part.
-fn second(a: u32, b: u32, c: u32, d: u32) -> u32
-    requires { (c < modulus) × (d < modulus) }
-    ensures answer { result ≡ (a * d + b * c) % modulus }
+fn second(a: Path, b: Reduced) -> Residue
+    ensures answer { result.word ≡ (a.u * b.v.word + a.v * b.u.word) % modulus }
 {
-    remainder(a as u64 * d as u64 + b as u64 * c as u64)
+    Residue::of(a.u as u64 * b.v.word as u64 + a.v as u64 * b.u.word as u64)
 }
 
-fn inverse(n: u32) -> u32
-    ensures answer { result ≡ inverse n }
+fn inverse(n: u32) -> Residue
+    ensures answer { result.word ≡ inverse n }
 {
-    if n > 0 && SPAN % n == 0 {
-        remainder((SPAN / n) as u64 * SPAN_INVERSE as u64)
-    } else {
-        0
-    }
+    Residue { word: SPAN_INVERSE }.inverse_of_part(SPAN as u32, n)
 }
 
 impl Arithmetic for Path {
@@ -123,49 +118,44 @@ impl Arithmetic for Path {
     }
 
     fn sum(self, other: Path) -> Path {
+        let (a, b) = (self.reduced(), other.reduced());
         Path {
-            u: plus(self.u, other.u),
-            v: plus(self.v, other.v),
+            u: (a.u + b.u).word,
+            v: (a.v + b.v).word,
         }
     }
 
     fn difference(self, other: Path) -> Path {
+        let (a, b) = (self.reduced(), other.reduced());
         Path {
-            u: remainder(self.u as u64 + opposite(other.u)),
-            v: remainder(self.v as u64 + opposite(other.v)),
+            u: (a.u - b.u).word,
+            v: (a.v - b.v).word,
         }
     }
 
     fn turn(self, e: u32) -> Path {
-        let w = power(e);
-        Path {
-            u: first(self.u, self.v, w.u, w.v),
-            v: second(self.u, self.v, w.u, w.v),
-        }
+        self.times(power::<SPAN, Path>(e)).path()
     }
 
     fn product(self, other: Path) -> Path {
-        let (u, v) = other.read();
-        Path {
-            u: first(self.u, self.v, u, v),
-            v: second(self.u, self.v, u, v),
-        }
+        self.times(other.reduced()).path()
     }
 
     fn part(self, n: u32) -> Path {
-        let factor = inverse(n) as u64;
+        let factor = inverse(n);
         Path {
-            u: remainder(self.u as u64 * factor),
-            v: remainder(self.v as u64 * factor),
+            u: (factor * self.u).word,
+            v: (factor * self.v).word,
         }
     }
 
     fn read(self) -> (u32, u32) {
-        (reduced(self.u), reduced(self.v))
+        let Path { u, v } = self.reduced().path();
+        (u, v)
     }
 
     fn span() -> u32 {
-        SPAN
+        SPAN as u32
     }
 
     fn exact() -> bool {

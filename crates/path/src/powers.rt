@@ -1,11 +1,11 @@
 // The root's powers, from two constant tables.
-ghost use Rattle.std.specs.Prelude.{◌≡◌, ◌*◌, ◌%◌, ◌<◌};
-ghost use Rattle.path.specs.Paths.{span, step, power, Reduced};
+ghost use Rattle.std.specs.Prelude.{◌≡◌, ◌*◌, ◌/◌, ◌%◌};
+ghost use Rattle.rooted.specs.Powers.{step};
+ghost use Rattle.path.specs.Paths.{element, times, power};
+ghost use Rattle.path.specs.Laws;
 
-use crate::{Path, SPAN, first, second};
-
-// One table has the powers below STEP, the other those by its multiples.
-const STEP: u32 = 64;
+use crate::{Path, Reduced, Residue, SPAN};
+use rooted::{Powers, STEP};
 
 // Powers 0, 1, 2, ..
 static LOW: [(u32, u32); 64] = [
@@ -151,40 +151,42 @@ static HIGH: [(u32, u32); 72] = [
     (1239072756, 1239072756),
 ];
 
-fn low(place: usize) -> Path
-    requires { place < step }
-    ensures answer { result ≡ power place }
-    ensures size { Reduced result }
-{
-    let (u, v) = LOW[place];
-    Path { u, v }
-}
+impl Powers<SPAN> for Path {
+    type Power = Reduced;
 
-fn high(place: usize) -> Path
-    requires { step * place < span }
-    ensures answer { result ≡ power (step * place) }
-{
-    let (u, v) = HIGH[place];
-    Path { u, v }
-}
+    ghost element = { element };
 
-// What e leaves by the span. A transform turns by less than the span, so that it is spared the division.
-fn within_span(e: u32) -> u32
-    ensures answer { result ≡ e % span }
-{
-    if e < SPAN { e } else { e % SPAN }
-}
+    ghost product = { times };
 
-// The root's power e, for every e.
-pub(crate) fn power(e: u32) -> Path
-    ensures answer { result ≡ power e }
-    ensures size { Reduced result }
-{
-    let e = within_span(e);
-    let a = high((e / STEP) as usize);
-    let b = low((e % STEP) as usize);
-    Path {
-        u: first(a.u, a.v, b.u, b.v),
-        v: second(a.u, a.v, b.u, b.v),
+    ghost power = { power };
+
+    ghost span_is = { Laws.span_is };
+
+    ghost sums = { Laws.sums };
+
+    ghost goes_round = { Laws.goes_round };
+
+    fn high(e: residues::Residue<SPAN>) -> Reduced
+        ensures answer { element result ≡ power (step * (e.word / step)) }
+    {
+        let (u, v) = HIGH[(e.word / STEP) as usize];
+        Reduced {
+            u: Residue { word: u },
+            v: Residue { word: v },
+        }
+    }
+
+    fn low(e: residues::Residue<SPAN>) -> Reduced
+        ensures answer { element result ≡ power (e.word % step) }
+    {
+        let (u, v) = LOW[(e.word % STEP) as usize];
+        Reduced {
+            u: Residue { word: u },
+            v: Residue { word: v },
+        }
+    }
+
+    fn times(a: Reduced, b: Reduced) -> Reduced {
+        a.path().times(b)
     }
 }

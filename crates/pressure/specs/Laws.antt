@@ -1,17 +1,18 @@
 -- The pressure arithmetic shows every law: remainders make a ring, and what the root owes is computed.
 use Rattle.std.specs.Prelude.{◌≡◌, refl, Bool, cond, List, [], ◌∷◌, ℕ, zero, suc, ◌+◌, ◌*◌, ◌/◌, ◌%◌, ◌^◌, T}
-use Rattle.std.proofs.Common.{ap, ◌∙◌, add_comm, zero-add, mul_comm, mul-one, add-one, arith, lit<, ne_eqb}
+use Rattle.std.proofs.Common.{ap, ◌∙◌, add_comm, zero-add, mul_comm, mul-one, add-one, lit<, lit≤, ne_eqb}
 use Rattle.std.proofs.Math.Nat.{mod-mod, mod-add-mod}
 use Rattle.algebra.proofs.Ranges.{below}
 use Rattle.algebra.proofs.Primes.{met, at_primes}
 use Rattle.algebra.proofs.Remainders as remainders
 use Rattle.arithmetic.specs.Series.{series}
 use Rattle.arithmetic.specs.Laws.{Prime, Divides, copies, Lawful}
+use Rattle.residues.specs.Residues.{Modulus}
 use Rattle.rooted.proofs.Ring.{Ring}
 use Rattle.rooted.proofs.Rooted.{Rooted}
 use Rattle.rooted.proofs.Rooted as from_root
 use Rattle.pressure.specs.declared.Pressure.{Pressure}
-use Rattle.pressure.specs.Pressures.{modulus, span, root, step, span_inverse, counted, residue, power, inverse, pressures}
+use Rattle.pressure.specs.Pressures.{modulus, span, root, span_inverse, counted, residue, powers, inverse, pressures}
 
 as_elements : {x y : ℕ} → x ≡ y → counted x ≡ counted y
 as_elements = ap counted
@@ -46,10 +47,10 @@ copies_of_one (suc (suc n)) =
     ∙ as_elements (mod-add-mod (suc n) modulus 1) ∙ ap residue (add-one (suc n))
 
 -- the primes that divide the span
-abbrev primes : List ℕ
+abbrev pub primes : List ℕ
 primes = 2 ∷ 3 ∷ 5 ∷ []
 
-tested : T (below (suc span) (met span primes))
+pub tested : T (below (suc span) (met span primes))
 tested = tt
 
 -- the powers by the multiples of span / q sum to zero
@@ -60,10 +61,6 @@ powers_vanish : (q : ℕ) → Prime q → Divides q span → Vanish q
 unfolding series
 powers_vanish = at_primes span primes (lit< tt) tested Vanish (refl, (refl, (refl, tt)))
 
-pub no_sooner : (q : ℕ) → Prime q → Divides q span → power (span / q) ≡ 1 → ⊥
-no_sooner =
-    at_primes span primes (lit< tt) tested (λ q. power (span / q) ≡ 1 → ⊥) (λ e. omega arith, (λ e. omega arith, (λ e. omega arith, tt)))
-
 inverse_is : (n : ℕ) → Divides n span → residue ((copies pressures n (residue 1)).word * inverse n) ≡ residue 1
 inverse_is n divides =
     ap (λ (x : Pressure). residue (x.word * inverse n)) (copies_of_one n)
@@ -72,11 +69,10 @@ inverse_is n divides =
 no_inverse : (n : ℕ) → (Divides n span → ⊥) → counted (inverse n) ≡ residue 0
 no_inverse n none = ap (λ (b : Bool). counted (cond b ((span / n * span_inverse) % modulus) 0)) (ne_eqb (span % n) 0 none)
 
-rooted : Rooted pressures
+pub rooted : Rooted pressures powers
 rooted = record {
   one = residue 1;
   ring = ring;
-  power = λ e. residue (root ^ e);
   turn_is = λ a e. refl;
   power_zero = refl;
   power_more = λ e. as_elements (remainders.power_more modulus root e);
@@ -95,14 +91,16 @@ rooted = record {
 }
 
 pub lawful : Lawful pressures
-lawful = from_root.lawful pressures rooted
+lawful = from_root.lawful pressures powers rooted
 
--- the powers by the multiples of step go on by one factor
-pub power_steps : (e : ℕ) → power (step * suc e) ≡ (power (step * e) * power step) % modulus
-unfolding rooted
-power_steps e = ap (λ (a : Pressure). a.word) (from_root.power_steps pressures rooted step e)
+pub span_is : Modulus span
+span_is = record { above_zero = lit< tt; small = lit≤ tt }
 
--- a power from one of those, and one of the powers below step
-pub power_of_two_levels : (e : ℕ) → (power (step * (e % span / step)) * power (e % span % step)) % modulus ≡ power e
-unfolding rooted
-power_of_two_levels e = ap (λ (a : Pressure). a.word) (from_root.power_of_two_levels pressures rooted step e)
+pub sums : (e f : ℕ) → pressures.product (powers e) (powers f) ≡ powers (e + f)
+sums = from_root.power_sum pressures powers rooted
+
+pub goes_round : (e : ℕ) → powers (e % span) ≡ powers e
+goes_round = from_root.power_by_remainder pressures powers rooted
+
+pub modulus_is : Modulus modulus
+modulus_is = record { above_zero = lit< tt; small = lit≤ tt }

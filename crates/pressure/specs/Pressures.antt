@@ -1,6 +1,8 @@
 -- The pressure arithmetic: the whole numbers modulo 15·2^27 + 1. Assumes nothing.
-use Rattle.std.specs.Prelude.{true, cond, ℕ, ◌+◌, ◌-◌, ◌*◌, ◌/◌, ◌%◌, ◌^◌, eqb}
+use Rattle.std.specs.Prelude.{true, ℕ, ◌+◌, ◌*◌, ◌%◌, ◌^◌}
 use Rattle.arithmetic.specs.Meaning.{Meaning}
+use Rattle.residues.specs.Residues.{opposite}
+use Rattle.residues.specs.Residues as residues
 use Rattle.pressure.specs.declared.Pressure.{Pressure}
 
 -- a prime
@@ -14,10 +16,6 @@ span = 7680
 -- 31 ^ ((modulus - 1) / span), reduced: 31 is the least number whose powers are all but 0
 abbrev pub root : ℕ
 root = 143112044
-
--- the root's powers come from two tables, of those below step and of those by its multiples
-abbrev pub step : ℕ
-step = 64
 
 -- the span times this leaves 1
 abbrev pub span_inverse : ℕ
@@ -35,9 +33,13 @@ counted n = record { word = n }
 abbrev pub power : ℕ → ℕ
 power e = root ^ e % modulus
 
--- n's inverse where n divides the span, else 0: n times span / n times the span's inverse leaves 1
+-- the element of it
+abbrev pub powers : ℕ → Pressure
+powers e = counted (power e)
+
+-- n's inverse where n divides the span, else 0
 abbrev pub inverse : ℕ → ℕ
-inverse n = cond (eqb (span % n) 0) ((span / n * span_inverse) % modulus) 0
+inverse = residues.inverse modulus span span_inverse
 
 -- the operations; each answers a reduced element
 abbrev pub pressures : Meaning Pressure ℕ
@@ -45,7 +47,7 @@ pressures = record {
   value = λ a. residue a.word;
   zero = residue 0;
   sum = λ a b. residue (a.word + b.word);
-  difference = λ a b. residue (a.word + (modulus - b.word % modulus));
+  difference = λ a b. residue (a.word + opposite modulus b.word);
   turn = λ a e. residue (a.word * power e);
   product = λ a b. residue (a.word * b.word);
   part = λ a n. residue (a.word * inverse n);

@@ -1,7 +1,7 @@
 // The pressure arithmetic: the whole numbers modulo 15·2^27 + 1, turned by the powers of a root.
 #![tactic(auto)]
 
-ghost use Rattle.std.specs.Prelude.{◌≡◌, ◌+◌, ◌*◌, ◌%◌};
+ghost use Rattle.std.specs.Prelude.{◌≡◌, ◌%◌};
 ghost use Rattle.pressure.specs.Pressures.{modulus, inverse, counted, pressures};
 ghost use Rattle.pressure.specs.Root.{Order};
 ghost use Rattle.pressure.specs.Worked.{Worked};
@@ -10,14 +10,16 @@ ghost use Rattle.pressure.specs.Laws;
 mod powers;
 
 use arithmetic::Arithmetic;
-use powers::power;
+use rooted::power;
 
 const MODULUS: u64 = 2013265921;
 
-const SPAN: u32 = 7680;
+const SPAN: u64 = 7680;
 
 // The span times this leaves 1 by the modulus.
 const SPAN_INVERSE: u32 = 2013003777;
+
+type Residue = residues::Residue<MODULUS>;
 
 // Any word is an element: its value is what it leaves by the modulus.
 #[derive(Clone, Copy, Debug, PartialEq, Eq)]
@@ -33,42 +35,18 @@ impl Pressure {
     {
         Pressure { word: u32::from(n) }
     }
-}
 
-fn remainder(n: u64) -> u32
-    ensures answer { result ≡ n % modulus }
-{
-    (n % MODULUS) as u32
-}
-
-// Reduced words need a subtraction at most, and no division.
-fn plus(a: u32, b: u32) -> u32
-    ensures answer { result ≡ (a + b) % modulus }
-{
-    let sum = a as u64 + b as u64;
-    if sum < MODULUS {
-        sum as u32
-    } else if sum < 2 * MODULUS {
-        (sum - MODULUS) as u32
-    } else {
-        remainder(sum)
+    fn residue(self) -> Residue
+        ensures answer { result.word ≡ self.word % modulus }
+    {
+        Residue::of_word(self.word)
     }
 }
 
-fn times(a: u32, b: u32) -> u32
-    ensures answer { result ≡ (a * b) % modulus }
+fn inverse(n: u32) -> Residue
+    ensures answer { result.word ≡ inverse n }
 {
-    remainder(a as u64 * b as u64)
-}
-
-fn inverse(n: u32) -> u32
-    ensures answer { result ≡ inverse n }
-{
-    if n > 0 && SPAN % n == 0 {
-        times(SPAN / n, SPAN_INVERSE)
-    } else {
-        0
-    }
+    Residue { word: SPAN_INVERSE }.inverse_of_part(SPAN as u32, n)
 }
 
 impl Arithmetic for Pressure {
@@ -84,41 +62,40 @@ impl Arithmetic for Pressure {
 
     fn sum(self, other: Pressure) -> Pressure {
         Pressure {
-            word: plus(self.word, other.word),
+            word: (self.residue() + other.residue()).word,
         }
     }
 
     fn difference(self, other: Pressure) -> Pressure {
-        let opposite = MODULUS - other.word as u64 % MODULUS;
         Pressure {
-            word: remainder(self.word as u64 + opposite),
+            word: (self.residue() - other.residue()).word,
         }
     }
 
     fn turn(self, e: u32) -> Pressure {
         Pressure {
-            word: times(self.word, power(e)),
+            word: (power::<SPAN, Pressure>(e) * self.word).word,
         }
     }
 
     fn product(self, other: Pressure) -> Pressure {
         Pressure {
-            word: times(self.word, other.word),
+            word: Residue::of(self.word as u64 * other.word as u64).word,
         }
     }
 
     fn part(self, n: u32) -> Pressure {
         Pressure {
-            word: times(self.word, inverse(n)),
+            word: (inverse(n) * self.word).word,
         }
     }
 
     fn read(self) -> u32 {
-        remainder(self.word as u64)
+        self.residue().word
     }
 
     fn span() -> u32 {
-        SPAN
+        SPAN as u32
     }
 
     fn exact() -> bool {

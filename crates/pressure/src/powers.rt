@@ -1,11 +1,11 @@
 // The root's powers, from two constant tables.
-ghost use Rattle.std.specs.Prelude.{◌≡◌, ◌*◌, ◌%◌, ◌<◌};
-ghost use Rattle.pressure.specs.Pressures.{span, step, power};
+ghost use Rattle.std.specs.Prelude.{◌≡◌, ◌*◌, ◌/◌, ◌%◌};
+ghost use Rattle.pressure.specs.Pressures.{counted, powers, pressures};
+ghost use Rattle.pressure.specs.Laws;
+ghost use Rattle.rooted.specs.Powers.{step};
 
-use crate::{SPAN, times};
-
-// One table has the powers below STEP, the other those by its multiples.
-const STEP: u32 = 64;
+use crate::{Pressure, Residue, SPAN};
+use rooted::{Powers, STEP};
 
 // Powers 0, 1, 2, ..
 static LOW: [u32; 64] = [
@@ -38,31 +38,38 @@ static HIGH: [u32; 120] = [
     1621869840, 184279276, 194344969, 325094654, 1285732572, 319311493, 1787934528,
 ];
 
-fn low(place: usize) -> u32
-    requires { place < step }
-    ensures answer { result ≡ power place }
-{
-    LOW[place]
-}
+impl Powers<SPAN> for Pressure {
+    type Power = Residue;
 
-fn high(place: usize) -> u32
-    requires { step * place < span }
-    ensures answer { result ≡ power (step * place) }
-{
-    HIGH[place]
-}
+    ghost element = { λ r. counted r.word };
 
-// What e leaves by the span. A transform turns by less than the span, so that it is spared the division.
-fn within_span(e: u32) -> u32
-    ensures answer { result ≡ e % span }
-{
-    if e < SPAN { e } else { e % SPAN }
-}
+    ghost product = { pressures.product };
 
-// The root's power e, for every e.
-pub(crate) fn power(e: u32) -> u32
-    ensures answer { result ≡ power e }
-{
-    let e = within_span(e);
-    times(high((e / STEP) as usize), low((e % STEP) as usize))
+    ghost power = { powers };
+
+    ghost span_is = { Laws.span_is };
+
+    ghost sums = { Laws.sums };
+
+    ghost goes_round = { Laws.goes_round };
+
+    fn high(e: residues::Residue<SPAN>) -> Residue
+        ensures answer { counted result.word ≡ powers (step * (e.word / step)) }
+    {
+        Residue {
+            word: HIGH[(e.word / STEP) as usize],
+        }
+    }
+
+    fn low(e: residues::Residue<SPAN>) -> Residue
+        ensures answer { counted result.word ≡ powers (e.word % step) }
+    {
+        Residue {
+            word: LOW[(e.word % STEP) as usize],
+        }
+    }
+
+    fn times(a: Residue, b: Residue) -> Residue {
+        a * b.word
+    }
 }

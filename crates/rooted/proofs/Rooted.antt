@@ -15,10 +15,9 @@ use Rattle.arithmetic.proofs.Series.{series_same}
 use Rattle.rooted.proofs.Ring as rings
 use Rattle.rooted.proofs.Ring.{Ring}
 
-pub record Rooted {A R : Type 0} (m : Meaning A R) : Type 0 where
+pub record Rooted {A R : Type 0} (m : Meaning A R) (power : ℕ → A) : Type 0 where
   pub one : A
   pub ring : Ring m one
-  pub power : ℕ → A
   pub turn_is : (a : A) (e : ℕ) → m.turn a e ≡ m.product a (power e)
   pub power_zero : power 0 ≡ one
   pub power_more : (e : ℕ) → power (suc e) ≡ m.product (power e) (power 1)
@@ -35,43 +34,43 @@ pub record Rooted {A R : Type 0} (m : Meaning A R) : Type 0 where
   pub is_exact : m.exact ≡ true
   pub is_full : m.full ≡ true
 
-module _ {A R : Type 0} (m : Meaning A R) (r : Rooted m) where
-  power_reduced : (e : ℕ) → m.value (r.power e) ≡ r.power e
+module _ {A R : Type 0} (m : Meaning A R) (power : ℕ → A) (r : Rooted m power) where
+  power_reduced : (e : ℕ) → m.value (power e) ≡ power e
   power_reduced zero = ap m.value r.power_zero ∙ r.ring.one_reduced ∙ sym r.power_zero
   power_reduced (suc e) =
-      ap m.value (r.power_more e) ∙ r.ring.product_reduced (r.power e) (r.power 1) ∙ sym (r.power_more e)
+      ap m.value (r.power_more e) ∙ r.ring.product_reduced (power e) (power 1) ∙ sym (r.power_more e)
 
-  times_one : (x : A) → m.product x (r.power 0) ≡ m.value x
+  times_one : (x : A) → m.product x (power 0) ≡ m.value x
   times_one x = ap (m.product x) r.power_zero ∙ r.ring.product_one x
 
-  pub power_sum : (e f : ℕ) → m.product (r.power e) (r.power f) ≡ r.power (e + f)
-  power_sum e zero = times_one (r.power e) ∙ power_reduced e ∙ ap r.power (sym (add-zero e))
+  pub power_sum : (e f : ℕ) → m.product (power e) (power f) ≡ power (e + f)
+  power_sum e zero = times_one (power e) ∙ power_reduced e ∙ ap power (sym (add-zero e))
   power_sum e (suc f) =
-      ap (m.product (r.power e)) (r.power_more f) ∙ sym (r.ring.product_assoc (r.power e) (r.power f) (r.power 1))
-      ∙ ap (λ x. m.product x (r.power 1)) (power_sum e f) ∙ sym (r.power_more (e + f)) ∙ ap r.power (sym (add-suc e f))
+      ap (m.product (power e)) (r.power_more f) ∙ sym (r.ring.product_assoc (power e) (power f) (power 1))
+      ∙ ap (λ x. m.product x (power 1)) (power_sum e f) ∙ sym (r.power_more (e + f)) ∙ ap power (sym (add-suc e f))
 
   -- the powers by the multiples of s go on by one factor
-  pub power_steps : (s e : ℕ) → r.power (s * suc e) ≡ m.product (r.power (s * e)) (r.power s)
-  power_steps s e = ap r.power (mul-suc s e) ∙ sym (power_sum (s * e) s)
+  pub power_steps : (s e : ℕ) → power (s * suc e) ≡ m.product (power (s * e)) (power s)
+  power_steps s e = ap power (mul-suc s e) ∙ sym (power_sum (s * e) s)
 
-  power_rounds : (k : ℕ) → r.power (m.span * k) ≡ r.power 0
-  power_rounds zero = ap r.power (mul-zero m.span)
+  power_rounds : (k : ℕ) → power (m.span * k) ≡ power 0
+  power_rounds zero = ap power (mul-zero m.span)
   power_rounds (suc k) =
       power_steps m.span k
-      ∙ ap (m.product (r.power (m.span * k))) (r.power_round ∙ sym r.power_zero) ∙ times_one (r.power (m.span * k))
+      ∙ ap (m.product (power (m.span * k))) (r.power_round ∙ sym r.power_zero) ∙ times_one (power (m.span * k))
       ∙ power_reduced (m.span * k) ∙ power_rounds k
 
-  pub power_by_remainder : (e : ℕ) → r.power (e % m.span) ≡ r.power e
+  pub power_by_remainder : (e : ℕ) → power (e % m.span) ≡ power e
   power_by_remainder e =
       let k = m.span * (e / m.span) in
-      sym (power_reduced (e % m.span)) ∙ sym (times_one (r.power (e % m.span)))
-      ∙ ap (m.product (r.power (e % m.span))) (sym (power_rounds (e / m.span))) ∙ r.ring.product_comm (r.power (e % m.span)) (r.power k)
-      ∙ power_sum k (e % m.span) ∙ ap r.power (div-add-mod e m.span)
+      sym (power_reduced (e % m.span)) ∙ sym (times_one (power (e % m.span)))
+      ∙ ap (m.product (power (e % m.span))) (sym (power_rounds (e / m.span))) ∙ r.ring.product_comm (power (e % m.span)) (power k)
+      ∙ power_sum k (e % m.span) ∙ ap power (div-add-mod e m.span)
 
   -- a power from one of the powers by multiples of s, and one of those below s
-  pub power_of_two_levels : (s e : ℕ) → m.product (r.power (s * (e % m.span / s))) (r.power (e % m.span % s)) ≡ r.power e
+  pub power_of_two_levels : (s e : ℕ) → m.product (power (s * (e % m.span / s))) (power (e % m.span % s)) ≡ power e
   power_of_two_levels s e =
-      power_sum (s * (e % m.span / s)) (e % m.span % s) ∙ ap r.power (div-add-mod (e % m.span) s) ∙ power_by_remainder e
+      power_sum (s * (e % m.span / s)) (e % m.span % s) ∙ ap power (div-add-mod (e % m.span) s) ∙ power_by_remainder e
 
   every : Every m
   every = record {
@@ -81,12 +80,12 @@ module _ {A R : Type 0} (m : Meaning A R) (r : Rooted m) where
     zero_reduced = r.ring.zero_reduced;
     sum_reduced = r.ring.sum_reduced;
     difference_reduced = r.ring.difference_reduced;
-    turn_reduced = λ a e. ap m.value (r.turn_is a e) ∙ r.ring.product_reduced a (r.power e) ∙ sym (r.turn_is a e);
+    turn_reduced = λ a e. ap m.value (r.turn_is a e) ∙ r.ring.product_reduced a (power e) ∙ sym (r.turn_is a e);
     product_reduced = r.ring.product_reduced;
     part_reduced = λ a n. ap m.value (r.part_is a n) ∙ r.ring.product_reduced a (r.inverse n) ∙ sym (r.part_is a n);
     sum_of_values = rings.sum_of_values r.ring;
     difference_of_values = rings.difference_of_values r.ring;
-    turn_of_value = λ a e. r.turn_is (m.value a) e ∙ rings.value_product r.ring a (r.power e) ∙ sym (r.turn_is a e);
+    turn_of_value = λ a e. r.turn_is (m.value a) e ∙ rings.value_product r.ring a (power e) ∙ sym (r.turn_is a e);
     product_of_values = λ a b. rings.value_product r.ring a (m.value b) ∙ rings.product_value r.ring a b;
     part_of_value = λ a n. r.part_is (m.value a) n ∙ rings.value_product r.ring a (r.inverse n) ∙ sym (r.part_is a n);
     turn_by_remainder = λ a e. r.turn_is a (e % m.span) ∙ ap (m.product a) (power_by_remainder e) ∙ sym (r.turn_is a e);
@@ -94,19 +93,19 @@ module _ {A R : Type 0} (m : Meaning A R) (r : Rooted m) where
 
   turn_sum : (a b : A) (e : ℕ) → m.turn (m.sum a b) e ≡ m.sum (m.turn a e) (m.turn b e)
   turn_sum a b e =
-      r.turn_is (m.sum a b) e ∙ rings.sum_product r.ring a b (r.power e)
-      ∙ ap (λ x. m.sum x (m.product b (r.power e))) (sym (r.turn_is a e)) ∙ ap (m.sum (m.turn a e)) (sym (r.turn_is b e))
+      r.turn_is (m.sum a b) e ∙ rings.sum_product r.ring a b (power e)
+      ∙ ap (λ x. m.sum x (m.product b (power e))) (sym (r.turn_is a e)) ∙ ap (m.sum (m.turn a e)) (sym (r.turn_is b e))
 
   turn_turn : (a : A) (e f : ℕ) → m.turn (m.turn a e) f ≡ m.turn a ((e + f) % m.span)
   turn_turn a e f =
-      ap (λ x. m.turn x f) (r.turn_is a e) ∙ r.turn_is (m.product a (r.power e)) f ∙ r.ring.product_assoc a (r.power e) (r.power f)
+      ap (λ x. m.turn x f) (r.turn_is a e) ∙ r.turn_is (m.product a (power e)) f ∙ r.ring.product_assoc a (power e) (power f)
       ∙ ap (m.product a) (power_sum e f ∙ sym (power_by_remainder (e + f))) ∙ sym (r.turn_is a ((e + f) % m.span))
 
   circle_vanishes : (a : A) (q : ℕ) → Prime q → Divides q m.span → series m (λ j. m.turn a (j * (m.span / q))) q ≡ m.zero
   circle_vanishes a q prime divides =
       let step = m.span / q in
-      series_same m (λ j. m.turn a (j * step)) (λ j. m.product a (r.power (j * step))) q (λ j _. r.turn_is a (j * step))
-      ∙ rings.series_product r.ring a (λ j. r.power (j * step)) q
+      series_same m (λ j. m.turn a (j * step)) (λ j. m.product a (power (j * step))) q (λ j _. r.turn_is a (j * step))
+      ∙ rings.series_product r.ring a (λ j. power (j * step)) q
       ∙ ap (m.product a) (r.powers_vanish q prime divides) ∙ rings.product_zero r.ring a
 
   exact : Exact m
@@ -145,8 +144,8 @@ module _ {A R : Type 0} (m : Meaning A R) (r : Rooted m) where
     no_part = λ a n none. r.part_is a n ∙ ap (m.product a) (r.no_inverse n none) ∙ rings.product_zero r.ring a;
     product_sum_left = rings.sum_product r.ring;
     product_sum_right = r.ring.product_sum;
-    product_turn_left = λ a b e. ap (λ x. m.product x b) (r.turn_is a e) ∙ rings.product_swap r.ring a (r.power e) b ∙ sym (r.turn_is (m.product a b) e);
-    product_turn_right = λ a b e. ap (m.product a) (r.turn_is b e) ∙ sym (r.ring.product_assoc a b (r.power e)) ∙ sym (r.turn_is (m.product a b) e);
+    product_turn_left = λ a b e. ap (λ x. m.product x b) (r.turn_is a e) ∙ rings.product_swap r.ring a (power e) b ∙ sym (r.turn_is (m.product a b) e);
+    product_turn_right = λ a b e. ap (m.product a) (r.turn_is b e) ∙ sym (r.ring.product_assoc a b (power e)) ∙ sym (r.turn_is (m.product a b) e);
   }
 
   not_both : {b : Bool} → b ≡ true → b ≡ false → ⊥

@@ -5,9 +5,13 @@ use Rattle.path.proofs.first.Goals as goal
 
 pub overflow_add-a : goal.overflow_add-a
 overflow_add-a c =
-    let fits = two_products_fit c.args.a c.args.b c.args.c (modulus - c.args.d) (omega arith) (omega arith) (omega arith) (omega arith) in
+    let a = c.args.a in
+    let b = c.args.b in
+    let fits = two_products_fit a.u a.v b.u.word (modulus - b.v.word) (omega arith) (omega arith) (omega (arith, b.u.below)) (omega arith) in
     omega arith
 
 pub returns : goal.returns
 returns c =
-    record { answer = c.remainder.ensures.answer ∙ taken_as_added (c.args.a * c.args.c) c.args.b c.args.d (omega arith) }
+    let a = c.args.a in
+    let b = c.args.b in
+    record { answer = c.of.ensures ∙ taken_as_added (a.u * b.u.word) a.v b.v.word (omega (arith, b.v.below)) }

@@ -4,5 +4,7 @@ use Rattle.path.proofs.second.Goals as goal
 
 pub overflow_add-a : goal.overflow_add-a
 overflow_add-a c =
-    let fits = two_products_fit c.args.a c.args.b c.args.d c.args.c (omega arith) (omega arith) (omega arith) (omega arith) in
+    let a = c.args.a in
+    let b = c.args.b in
+    let fits = two_products_fit a.u a.v b.v.word b.u.word (omega arith) (omega arith) (omega (arith, b.v.below)) (omega (arith, b.u.below)) in
     omega arith
