@@ -3,3 +3,4 @@ pub mod Rounding
 pub mod Turning
 pub mod Pairs
 pub mod Worked
+pub mod Laws

@@ -1,15 +1,15 @@
 // The fixed arithmetic: pairs of 32-bit numbers in units of 1/1,024 of a count.
 #![tactic(auto)]
 
-ghost use Rattle.std.specs.Prelude.{◌≡◌, ◌^◌, ◌≤◌, ◌*ℤ◌, unsigned_abs};
+ghost use Rattle.std.specs.Prelude.{◌≡◌, ◌^◌, ◌≤◌, ◌+ℤ◌, ◌-ℤ◌, ◌*ℤ◌, unsigned_abs};
 ghost use Rattle.fixed.specs.Pairs.{fixed, sampled, TurnsByZero};
 ghost use Rattle.fixed.specs.Range.{into_range, BringsIntoRange};
 ghost use Rattle.fixed.specs.Rounding.{rounded, FloorRoundsDown, RoundsToNearest};
 ghost use Rattle.fixed.specs.Worked.{WorkedCases};
-ghost use Rattle.quarter.specs.Entries.{S};
-ghost use Rattle.std.proofs.Common.{rules};
+ghost use Rattle.fixed.specs.Laws;
 
 use arithmetic::Arithmetic;
+use quarter::Direction;
 
 // How many units make a count.
 const UNITS: i32 = 1024;
@@ -37,15 +37,20 @@ impl Fixed {
             y: UNITS * y as i32,
         }
     }
-}
 
-// The product of a number and a part of a direction.
-fn times(a: i32, b: i32) -> i64
-    requires { unsigned_abs b ≤ S }
-    ensures answer { result ≡ a *ℤ b }
-    ensures size { unsigned_abs result ≤ 2 ^ 61 }
-{
-    a as i64 * b as i64
+    // How far it goes along a direction, in whole units.
+    fn along(self, to: Direction) -> i64
+        ensures answer { result ≡ rounded (self.x *ℤ to.c +ℤ self.y *ℤ to.s) }
+    {
+        rounded(self.x as i64 * to.c as i64 + self.y as i64 * to.s as i64)
+    }
+
+    // How far beside it.
+    fn beside(self, to: Direction) -> i64
+        ensures answer { result ≡ rounded (self.y *ℤ to.c -ℤ self.x *ℤ to.s) }
+    {
+        rounded(self.y as i64 * to.c as i64 - self.x as i64 * to.s as i64)
+    }
 }
 
 // A sum of two products in whole units, to the nearest; a half goes up.
@@ -56,7 +61,7 @@ fn rounded(z: i64) -> i64
     (z + (1 << (SHIFT - 1))) >> SHIFT
 }
 
-// The low 32 bits, as a signed number.
+// The low 32 bits, as a signed number; `as` alone is to lose nothing.
 fn into_range(z: i64) -> i32
     ensures answer { result ≡ into_range z }
 {
@@ -68,7 +73,7 @@ impl Arithmetic for Fixed {
 
     ghost meaning = { fixed };
 
-    ghost lawful = { Prim.search rules };
+    ghost lawful = { Laws.lawful };
 
     fn zero() -> Fixed {
         Fixed { x: 0, y: 0 }
@@ -89,10 +94,10 @@ impl Arithmetic for Fixed {
     }
 
     fn turn(self, e: u32) -> Fixed {
-        let (c, s) = quarter::entry(e);
+        let to = quarter::entry(e);
         Fixed {
-            x: into_range(rounded(times(self.x, c) + times(self.y, s))),
-            y: into_range(rounded(times(self.y, c) - times(self.x, s))),
+            x: into_range(self.along(to)),
+            y: into_range(self.beside(to)),
         }
     }
 

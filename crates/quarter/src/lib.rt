@@ -1,10 +1,30 @@
 // The constant table of directions: a quarter of the circle, and by symmetry the whole.
 #![tactic(auto)]
 
-ghost use Rattle.std.specs.Prelude.{◌≡◌, ◌≤◌, pos, if◌then◌else◌, slice_index_or};
+ghost use Rattle.std.specs.Prelude.{◌≡◌, ◌≤◌, pos, slice_index_or};
 ghost use Rattle.quarter.specs.Bisection.{Circle};
-ghost use Rattle.quarter.specs.Entries.{quarter, entry, Short, quarters_onward};
+ghost use Rattle.quarter.specs.Entries.{quarter, entry, onward, Short};
 ghost use Rattle.quarter.specs.Table.{quarter_table};
+
+// A direction: neither part is longer than 2^30.
+#[derive(Clone, Copy, Debug, PartialEq, Eq)]
+pub struct Direction {
+    pub c: i32,
+    pub s: i32,
+    pub ghost short: { Short (c, s) },
+}
+
+impl Direction {
+    // A quarter of the circle further.
+    fn onward(self) -> Direction
+        ensures answer { (result.c, result.s) ≡ onward (self.c, self.s) }
+    {
+        Direction {
+            c: -self.s,
+            s: self.c,
+        }
+    }
+}
 
 // Entries 0 to 128, each (c, s) of the length 2^30. A static is read in place, where a const would be copied whole.
 static TABLE: [(i32, i32); 129] = [
@@ -142,42 +162,30 @@ static TABLE: [(i32, i32); 129] = [
 // How many entries make a quarter of the circle.
 const QUARTER: u32 = 128;
 
-fn within_quarter(place: usize) -> (i32, i32)
+fn within_quarter(place: usize) -> Direction
     requires { place ≤ quarter }
-    ensures answer { result ≡ slice_index_or quarter_table place (pos 0, pos 0) }
-    ensures size { Short result }
+    ensures answer { (result.c, result.s) ≡ slice_index_or quarter_table place (pos 0, pos 0) }
 {
-    TABLE[place]
-}
-
-// The direction a quarter of the circle further, where it is to go there.
-fn quarter_on(direction: (i32, i32), further: bool) -> (i32, i32)
-    requires { Short direction }
-    ensures answer { result ≡ quarters_onward (if further then 1 else 0) direction }
-    ensures size { Short result }
-{
-    let (c, s) = direction;
-    if further { (-s, c) } else { (c, s) }
-}
-
-// The same of half the circle.
-fn half_on(direction: (i32, i32), further: bool) -> (i32, i32)
-    requires { Short direction }
-    ensures answer { result ≡ quarters_onward (if further then 2 else 0) direction }
-    ensures size { Short result }
-{
-    let (c, s) = direction;
-    if further { (-c, -s) } else { (c, s) }
+    let (c, s) = TABLE[place];
+    Direction { c, s }
 }
 
 // Entry e of the circle, for every e. Two choices make no jump, where four ways would: turns are the innermost loop.
-pub fn entry(e: u32) -> (i32, i32)
-    ensures answer { result ≡ entry e }
-    ensures size { Short result }
+pub fn entry(e: u32) -> Direction
+    ensures answer { (result.c, result.s) ≡ entry e }
 {
     let first = within_quarter((e % QUARTER) as usize);
     let quarters = e / QUARTER % 4;
-    half_on(quarter_on(first, quarters % 2 == 1), quarters >= 2)
+    let beside = if quarters % 2 == 1 {
+        first.onward()
+    } else {
+        first
+    };
+    if quarters >= 2 {
+        beside.onward().onward()
+    } else {
+        beside
+    }
 }
 
 // The table is the one that bisection makes, and goes on round the circle by quarters.
