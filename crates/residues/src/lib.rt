@@ -1,7 +1,7 @@
 // Residues: what numbers leave by a modulus that is known when the program is built.
 #![tactic(auto)]
 
-ghost use Rattle.std.specs.Prelude.{◌≡◌, ◌+◌, ◌*◌, ◌%◌, ◌<◌};
+ghost use Rattle.std.specs.Prelude.{◌≡◌, ◌+◌, ◌*◌, ◌%◌, ◌<◌, ◌≤◌};
 ghost use Rattle.residues.specs.Residues.{Modulus, opposite, inverse};
 
 use std::ops::{Add, Mul, Sub};
@@ -34,6 +34,17 @@ impl<const M: u64> Residue<M> {
         Residue { word: left as u32 }
     }
 
+    // More by at most the modulus: a subtraction at most, and no division.
+    fn plus(self, n: u32) -> Residue<M>
+        requires { n ≤ M }
+        ensures { result.word ≡ (self.entry.word + n) % M }
+    {
+        let m = M as u32;
+        let sum = self.word + n;
+        let word = if sum < m { sum } else { sum - m };
+        Residue { word }
+    }
+
     // The inverse of n, which divides the span, from that of the span.
     pub fn inverse_of_part(self, span: u32, n: u32) -> Residue<M>
         ensures { result.word ≡ inverse M span self.entry.word n }
@@ -46,16 +57,13 @@ impl<const M: u64> Residue<M> {
     }
 }
 
-// Reduced words need a subtraction at most, and no division.
 impl<const M: u64> Add for Residue<M> {
     type Output = Residue<M>;
 
     ghost add_gives = { λ a b c. c.word ≡ (a.word + b.word) % M };
 
     fn add(self, other: Residue<M>) -> Residue<M> {
-        let sum = self.word as u64 + other.word as u64;
-        let left = if sum < M { sum } else { sum - M };
-        Residue { word: left as u32 }
+        self.plus(other.word)
     }
 }
 
@@ -65,9 +73,7 @@ impl<const M: u64> Sub for Residue<M> {
     ghost sub_gives = { λ a b c. c.word ≡ (a.word + opposite M b.word) % M };
 
     fn sub(self, other: Residue<M>) -> Residue<M> {
-        let sum = self.word as u64 + (M - other.word as u64);
-        let left = if sum < M { sum } else { sum - M };
-        Residue { word: left as u32 }
+        self.plus(M as u32 - other.word)
     }
 }
 
