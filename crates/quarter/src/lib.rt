@@ -1,9 +1,9 @@
 // The constant table of directions: a quarter of the circle, and by symmetry the whole.
 #![tactic(auto)]
 
-ghost use Rattle.std.specs.Prelude.{◌≡◌, ◌≤◌, pos, slice_index_or};
+ghost use Rattle.std.specs.Prelude.{◌≡◌, ◌≤◌, pos, if◌then◌else◌, slice_index_or};
 ghost use Rattle.quarter.specs.Bisection.{Circle};
-ghost use Rattle.quarter.specs.Entries.{quarter, entry, onward, Short};
+ghost use Rattle.quarter.specs.Entries.{quarter, entry, quarters_onward, Short};
 ghost use Rattle.quarter.specs.Table.{quarter_table};
 
 // A direction: neither part is longer than 2^30.
@@ -15,13 +15,31 @@ pub struct Direction {
 }
 
 impl Direction {
-    // A quarter of the circle further.
-    fn onward(self) -> Direction
-        ensures answer { (result.c, result.s) ≡ onward (self.c, self.s) }
+    // The direction a quarter of the circle further, where it is to go there.
+    fn quarter_on(self, further: bool) -> Direction
+        ensures answer { (result.c, result.s) ≡ quarters_onward (if further then 1 else 0) (self.c, self.s) }
     {
-        Direction {
-            c: -self.s,
-            s: self.c,
+        if further {
+            Direction {
+                c: -self.s,
+                s: self.c,
+            }
+        } else {
+            self
+        }
+    }
+
+    // The same of half the circle: two steps of a quarter in its place were tried, and cost each turn a jump.
+    fn half_on(self, further: bool) -> Direction
+        ensures answer { (result.c, result.s) ≡ quarters_onward (if further then 2 else 0) (self.c, self.s) }
+    {
+        if further {
+            Direction {
+                c: -self.c,
+                s: -self.s,
+            }
+        } else {
+            self
         }
     }
 }
@@ -176,16 +194,7 @@ pub fn entry(e: u32) -> Direction
 {
     let first = within_quarter((e % QUARTER) as usize);
     let quarters = e / QUARTER % 4;
-    let beside = if quarters % 2 == 1 {
-        first.onward()
-    } else {
-        first
-    };
-    if quarters >= 2 {
-        beside.onward().onward()
-    } else {
-        beside
-    }
+    first.quarter_on(quarters % 2 == 1).half_on(quarters >= 2)
 }
 
 // The table is the one that bisection makes, and goes on round the circle by quarters.
