@@ -2,16 +2,17 @@
 use Rattle.std.proofs.Common.{◌≡◌, ℕ, zero, suc, ◌-◌, ◌*◌, ◌/◌, ◌%◌, ◌^◌, ◌<◌, ◌≤◌, ◌⊎◌, List, [], ◌∷◌, length, get_or, Some, None, Option, sym, refl, ap, ◌∙◌, subst, inl, inr, ⊎_elim, not-suc-le-zero, arith, pow_mono}
 use native.Mathlib.Nat.{mod_self, pow-succ', dvd_of_mod-eq-zero, dvd-mul_left_of_dvd, mod-eq-zero_of_dvd}
 use Rattle.std.specs.Option.{option_map, ok_or}
-use Rattle.std.proofs.lemmas.Nat.{div-add-mod', mul-le}
+use Rattle.std.proofs.lemmas.Nat.{mul-le}
 use Rattle.std.proofs.lemmas.Bool.{cases_eq, cases_lt, cond-true, cond-false, eq-eqb, ne_eqb}
 use Rattle.arithmetic.specs.Laws.{Prime, Divides}
+use Rattle.arithmetic.proofs.Divisors.{times_quotient, divides_trans, prime_factor}
 use Rattle.plan.specs.declared.fault.PlanFault.TheVariants.{Length}
 use Rattle.plan.specs.Radices.{size, most_radices, least_radix, largest_radix, largest_size, Each}
 use Rattle.plan.specs.Standard.{standard_radices, factors, most_steps, standard}
 use Rattle.plan.specs.Lengths.{InTurn, LargeFactor, StandardPlan, Granted}
 use Rattle.plan.proofs.Sizes.{right_positive, each_tail}
 use Rattle.plan.proofs.Growing.{pow_le_size}
-use Rattle.plan.proofs.Primes.{above_zero, above_one, divides_trans, prime_factor, prime_above_radices}
+use Rattle.plan.proofs.Primes.{above_zero, above_one, prime_above_radices}
 use Rattle.plan.proofs.Taking.{standard_each, standard_outside, standard_inside}
 
 -- the radices taken out of a length by those that are tried
@@ -20,13 +21,10 @@ record Factored (tried : List ℕ) (left : ℕ) (rs : List ℕ) : Type 0 where
   each : Each rs
   in_turn : InTurn tried rs
 
-whole_quotient : (n r : ℕ) → Divides r n → r * (n / r) ≡ n
-whole_quotient n r divides = omega (arith, div-add-mod' n r)
-
 factored_more : (r : ℕ) (tried : List ℕ) (left : ℕ) (rs : List ℕ) → (least_radix ≤ r) × (r ≤ largest_radix) → Divides r left → Factored (r ∷ tried) (left / r) rs → Factored (r ∷ tried) left (r ∷ rs)
 factored_more r tried left rs radix divides f =
     record {
-      product = ap (λ x. r * x) f.product ∙ whole_quotient left r divides;
+      product = ap (λ x. r * x) f.product ∙ times_quotient r left divides;
       each = each_cons;
       in_turn = (suc f.in_turn.0, f.in_turn.1, ap (λ x. r ∷ x) f.in_turn.2, f.in_turn.3, f.in_turn.4);
     }
@@ -85,7 +83,7 @@ stuck_more r tried left divides s =
       part = s.part;
       more = s.more;
       divides =
-          ap (λ x. x % s.part) (sym (whole_quotient left r divides))
+          ap (λ x. x % s.part) (sym (times_quotient r left divides))
           ∙ mod-eq-zero_of_dvd s.part (dvd-mul_left_of_dvd s.part (dvd_of_mod-eq-zero s.part s.divides) r);
       none = s.none;
     }
@@ -101,7 +99,7 @@ stuck_next r tried left not s =
 -- a step that takes a radix halves what is left at least, so the steps suffice
 halves : (r left j : ℕ) → least_radix ≤ r → Divides r left → 0 < left → left ≤ 2 ^ j → (0 < left / r) × (0 < j) × (left / r ≤ 2 ^ (j - 1))
 halves r left j low divides pos bound =
-    let parts = whole_quotient left r divides in
+    let parts = times_quotient r left divides in
     let some = right_positive r (left / r) (omega arith) in
     let twice = mul-le 2 (left / r) r (left / r) low (omega arith) in
     let steps : 0 < j = above j bound (omega arith) in

@@ -1,8 +1,8 @@
--- Prime factors: every number above 1 has one, and one of a product with a smaller number is one of the other factor.
-use Rattle.std.proofs.Common.{◌≡◌, ℕ, zero, suc, ◌+◌, ◌-◌, ◌*◌, ◌/◌, ◌%◌, ◌<◌, ◌≤◌, List, [], ◌∷◌, length, get_or, sym, ap, ◌∙◌, ⊎_elim, mod-eq_of_lt, mul_assoc, arith}
-use native.Mathlib.Nat.{mod_self, dvd_trans, dvd-sub, dvd-mul_left_of_dvd, dvd-mul_right, dvd_of_mod-eq-zero, mod-eq-zero_of_dvd}
+-- A prime that divides a product with a smaller number divides the other factor.
+use Rattle.std.proofs.Common.{◌≡◌, ℕ, zero, suc, ◌-◌, ◌*◌, ◌/◌, ◌%◌, ◌<◌, ◌≤◌, List, [], ◌∷◌, length, get_or, ap, ◌∙◌, ⊎_elim, mod-eq_of_lt, mul_assoc, arith}
+use native.Mathlib.Nat.{dvd-sub, dvd-mul_left_of_dvd, dvd-mul_right, dvd_of_mod-eq-zero, mod-eq-zero_of_dvd}
 use Rattle.std.proofs.lemmas.Nat.{div-add-mod', mod_below}
-use Rattle.std.proofs.lemmas.Bool.{cases_eq, cases_lt}
+use Rattle.std.proofs.lemmas.Bool.{cases_eq}
 use Rattle.arithmetic.specs.Laws.{Prime, Divides}
 use Rattle.plan.specs.Radices.{size}
 
@@ -11,32 +11,6 @@ above_zero n not = grind arith
 
 pub above_one : (n : ℕ) → 0 < n → (n ≡ 1 → ⊥) → 1 < n
 above_one n pos not = grind arith
-
-pub divides_trans : (a b c : ℕ) → Divides a b → Divides b c → Divides a c
-divides_trans a b c p q = mod-eq-zero_of_dvd a (dvd_trans a (dvd_of_mod-eq-zero a p) (dvd_of_mod-eq-zero b q))
-
--- no number from 2 to d - 1 divides n
-None_below : ℕ → ℕ → Type 0
-None_below d n = (e : ℕ) → 1 < e → e < d → Divides e n → ⊥
-
-none_more : (d n : ℕ) → None_below d n → (Divides d n → ⊥) → None_below (suc d) n
-unfolding None_below
-none_more d n none not e low high divides =
-    ⊎_elim (λ (l : e < d). none e low l divides) (λ (l : d ≤ e). let same : e ≡ d = omega arith in not (sym (ap (λ x. n % x) same) ∙ divides)) (cases_lt e d)
-
--- the least divisor from d on, with room for k more tries, is prime
-least_divisor : (k d n : ℕ) → 1 < d → n < d + k → 1 < n → None_below d n → (q : ℕ) × Prime q × Divides q n
-unfolding None_below
-least_divisor zero d n low end more none = absurd (none n more (omega arith) (mod_self n))
-least_divisor (suc k) d n low end more none =
-    ⊎_elim
-    (λ (yes : n % d ≡ 0). (d, (low, λ e above below divides. none e above below (divides_trans e d n divides yes)), yes))
-    (λ (not : n % d ≡ 0 → ⊥). least_divisor k (suc d) n (omega arith) (omega arith) more (none_more d n none not))
-    (cases_eq (n % d) 0)
-
-pub prime_factor : (n : ℕ) → 1 < n → (q : ℕ) × Prime q × Divides q n
-unfolding None_below
-prime_factor n more = least_divisor n 2 n (omega arith) (omega arith) more (λ e low high divides. absurd (omega arith))
 
 -- q m less what r m divides into it leaves a smaller multiple of m: down to m itself
 prime_step : (k q m r : ℕ) → r ≤ k → Prime q → 0 < r → r < q → Divides q (r * m) → Divides q m
@@ -53,12 +27,6 @@ prime_step (suc k) q m r h prime pos less divides =
     let multiple = dvd-sub q (dvd-mul_right q m) (dvd-mul_left_of_dvd q (dvd_of_mod-eq-zero q divides) t) in
     prime_step k q m s (omega arith) prime some (omega arith) (ap (λ x. x % q) split ∙ mod-eq-zero_of_dvd q multiple))
     (cases_eq r 1)
-  where
-    positive : (x : ℕ) → (x ≡ 0 → ⊥) → 0 < x
-    positive x not = grind arith
-
-    above : (x : ℕ) → 0 < x → (x ≡ 1 → ⊥) → 1 < x
-    above x pos not = grind arith
 
 pub prime_divides_right : (q r m : ℕ) → Prime q → 0 < r → r < q → Divides q (r * m) → Divides q m
 prime_divides_right q r m = prime_step r q m r (omega arith)

@@ -1,7 +1,9 @@
 -- Sizes and turns of a plan and of what is left of it.
-use Rattle.std.proofs.Common.{◌≡◌, ℕ, zero, suc, ◌+◌, ◌*◌, ◌%◌, ◌<◌, ◌≤◌, List, [], ◌∷◌, length, get_or, drop, refl, ap, ◌∙◌, mul-le-mul_right, mul-zero, arith}
+use Rattle.std.proofs.Common.{◌≡◌, ℕ, zero, suc, ◌+◌, ◌*◌, ◌%◌, ◌<◌, ◌≤◌, List, [], ◌∷◌, length, drop, refl, ap, ◌∙◌, mul-le-mul_right, mul-zero, arith}
 use native.Mathlib.Nat.{dvd-mul_left_of_dvd, dvd_of_mod-eq-zero, mod-eq-zero_of_dvd, le_of_dvd, mod_self}
-use Rattle.std.proofs.lemmas.List.{length-drop, get_or-drop, at_drop_more, at_drop_all}
+use Rattle.std.specs.List.{sum}
+use Rattle.std.proofs.lemmas.List.{length-drop, get_or-drop}
+use Rattle.std.proofs.lemmas.List.Sums.{sum_by-cons}
 use Rattle.std.proofs.lemmas.Nat.{mul-le}
 use Rattle.plan.specs.Radices.{size, radix_sum, turns, largest_radix, most_radices, largest_size, Each, Plan}
 
@@ -71,10 +73,7 @@ turns_le rs p =
     let few = p.few in
     mul-le (size rs) (radix_sum rs) largest_size (largest_radix * most_radices) p.small (omega arith)
 
--- summing up: after the first i radices the others are left to add
-pub radix_sum_more : (rs : List ℕ) (i sum : ℕ) → i < length rs → sum + radix_sum (drop i rs) ≡ radix_sum rs → (sum + get_or rs i 0) + radix_sum (drop (i + 1) rs) ≡ radix_sum rs
-radix_sum_more rs i sum h so = omega (arith, so, at_drop_more radix_sum rs i 0 h)
-
-pub turns_all : (rs : List ℕ) (i sum len : ℕ) → length rs ≤ i → sum + radix_sum (drop i rs) ≡ radix_sum rs → len ≡ size rs → len * sum ≡ turns rs
-turns_all rs i sum len h so whole =
-    ap (λ x. x * sum) whole ∙ ap (λ x. size rs * x) (omega (arith, so, at_drop_all radix_sum rs i h))
+-- the library's sum of the radices
+pub sum_is : (rs : List ℕ) → sum rs ≡ radix_sum rs
+sum_is [] = refl
+sum_is (r ∷ rs) = sum_by-cons (λ x. x) r rs ∙ ap (λ n. r + n) (sum_is rs)

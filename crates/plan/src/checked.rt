@@ -12,7 +12,7 @@ fn ranged(radices: &[u8]) -> Result<(), PlanFault>
     ensures answer { result ≡ ranged_from 0 radices.now }
 {
     for (i, r) in radices.iter().enumerate() {
-        if *r < LEAST_RADIX || *r > LARGEST_RADIX {
+        if !(LEAST_RADIX..=LARGEST_RADIX).contains(r) {
             return Err(PlanFault::Radix(i));
         }
     }
@@ -39,7 +39,7 @@ fn held(radices: &[u8]) -> [u8; MOST_RADICES]
     ensures answer { result ≡ radices.now ++ replicate (most_radices - length radices.now) 0 }
 {
     let mut room = [0; MOST_RADICES];
-    room[0..radices.len()].copy_from_slice(radices);
+    room[..radices.len()].copy_from_slice(radices);
     room
 }
 

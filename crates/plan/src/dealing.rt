@@ -12,7 +12,7 @@ impl Plan {
         ensures answer { result.now ≡ radices_of self.now }
         ensures plan { IsPlan result.now }
     {
-        &self.radices[0..self.count]
+        &self.radices[..self.count]
     }
 
     // How many samples the plan is for.
@@ -26,10 +26,7 @@ impl Plan {
     pub fn turns(&self) -> usize
         ensures answer { result ≡ turns (radices_of self.now) }
     {
-        let mut sum = 0;
-        for r in self.radices() {
-            sum += *r as usize;
-        }
+        let sum: usize = self.radices().iter().map(|r| usize::from(*r)).sum();
         self.len() * sum
     }
 

@@ -2,9 +2,9 @@
 use Rattle.std.proofs.Common.{◌≡◌, ℕ, ◌+◌, ◌-◌, ◌*◌, ◌%◌, ◌^◌, ◌<◌, ◌≤◌, List, ◌∷◌, length, get_or, drop, sym, refl, ap, ◌∙◌, mul_comm, mul-le-mul_left, mul-zero, mul-add, arith}
 use Rattle.std.proofs.lemmas.List.{at_drop_more, drop_all}
 use Rattle.arithmetic.specs.Meaning.{Meaning}
+use Rattle.arithmetic.proofs.Divisors.{divides_trans}
 use Rattle.plan.specs.Radices.{size, radix_sum, turns, largest_size, Plan}
 use Rattle.plan.proofs.Sizes.{plan_drop, plan_size_positive, size_drop_divides, radix_sum_drop_le, turns_le}
-use Rattle.plan.proofs.Primes.{divides_trans}
 use Rattle.spectra.specs.Stages.{staged, stages}
 use Rattle.spectrum.specs.Shapes.{shaped, Sound}
 use Rattle.spectra.proofs.Recursion.{stages_end, stages_more}

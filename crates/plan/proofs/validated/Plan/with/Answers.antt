@@ -16,7 +16,3 @@ invariant_of-result c =
     let each = each_push (radices_of p) r p.each c.requires.radix.0 c.requires.radix.1 in
     let whole = len_push p r (omega arith) c.requires.radix.0 c.requires.small in
     record { few = omega arith; each = subst Each pushed each; whole = whole ∙ ap size pushed; small = len_small p r (omega arith) c.requires.radix.0 c.requires.small }
-
-pub returns : goal.returns
-returns c =
-    record { answer = radices_push c.args.self c.args.radix (omega arith) c.requires.radix.0 c.requires.small }
