@@ -1,3 +1,2 @@
-pub mod Unpacking
 pub mod Underway
 pub mod Polled

@@ -33,8 +33,8 @@ module _ {A R : Type 0} (m : Meaning A R) where
       }
 
   module _ {rs : List ℕ} {i : ℕ} {run : Run} {before after : List A} (done : Polled m rs i run before after) where
-    length_of : run.len ≡ size rs
-    length_of = run.whole ∙ ap size done.plan
+    length_of : size (plan_of run) ≡ size rs
+    length_of = ap size done.plan
 
     pub polled_ready : (span buf work : ℕ) → Suited span rs buf work → i < length rs → Ready span run buf work
     polled_ready span buf work granted h =
@@ -69,7 +69,7 @@ module _ {A R : Type 0} (m : Meaning A R) where
         let left : run.left ≡ length rs - polls = omega arith in
         let rest = λ (k : ℕ). radix_sum (drop k rs) in
         let turned : run.turns ≡ size rs * rest (length rs - polls) =
-        run.turned ∙ ap (λ x. run.len * radix_sum (drop run.left x)) done.plan ∙ ap (λ n. n * rest run.left) length_of
+        run.turned ∙ ap (λ x. size (plan_of run) * radix_sum (drop run.left x)) done.plan ∙ ap (λ n. n * rest run.left) length_of
         ∙ ap (λ k. size rs * rest k) left in
         let as_seen : List ℕ → ℕ → ℕ → Seen = λ p l t. record { plan = p; left = l; turns = t } in
         ap (λ p. as_seen p run.left run.turns) done.plan ∙ ap (λ l. as_seen rs l run.turns) left

@@ -1,56 +1,38 @@
 -- What a run knows of its plan, and what its next stage makes of that.
-use Rattle.std.proofs.Common.{◌≡◌, ℕ, ◌+◌, ◌-◌, ◌*◌, ◌%◌, ◌^◌, ◌<◌, ◌≤◌, List, length, drop, Ok, Err, sym, ap, ◌∙◌, mul_comm, arith}
+use Rattle.std.proofs.Common.{◌≡◌, ℕ, ◌+◌, ◌-◌, ◌*◌, ◌%◌, ◌^◌, ◌<◌, ◌≤◌, List, drop, Ok, refl, ap, ◌∙◌, mul_comm, arith}
 use Rattle.std.proofs.lemmas.Bool.Decides.{nat_tests}
 use Rattle.arithmetic.specs.Laws.{Divides}
 use Rattle.arithmetic.proofs.Divisors.{divides_trans}
 use Rattle.plan.specs.Radices.{size, radix_sum, Plan}
-use Rattle.plan.proofs.Sizes.{plan_size_positive, plan_drop}
-use Rattle.runs.specs.Packed.{radix_before}
+use Rattle.plan.proofs.Sizes.{plan_drop}
+use Rattle.plan.proofs.Sound.{checked_plan}
 use Rattle.spectrum.specs.Granted.{scratch, plans, suited, stage_turned}
 use Rattle.runs.specs.Runs.{plan_of, next_radix, Seen, ready, onward, stepped, finished}
-use Rattle.refusal.specs.declared.Fault.{Fault}
 use Rattle.runs.specs.declared.run.Run.{Run}
 use Rattle.spectrum.proofs.Granting.{StageSuited}
-use Rattle.spectrum.proofs.Schedule.{block_size, block_divides, block_small, turned_more, turned_fits}
-use Rattle.runs.proofs.Unpacking.{length_unpacked, unpacked_at}
-
-pub stages_of : (run : Run) → length (plan_of run) ≡ run.count
-stages_of run = length_unpacked run.count run.radices
+use Rattle.spectrum.proofs.Schedule.{block_size, block_divides, turned_more, turned_fits}
 
 pub run_plan : (run : Run) → Plan (plan_of run)
-run_plan run =
-    record { few = omega (arith, stages_of run, run.few); each = run.each; small = omega (arith, run.whole, run.small) }
+run_plan run = checked_plan run.plan
 
-pub run_length_positive : (run : Run) → 0 < run.len
-run_length_positive run = omega (arith, run.whole, plan_size_positive (plan_of run) (run_plan run))
-
-pub left_within : (run : Run) → run.left ≤ length (plan_of run)
-left_within run = omega (arith, stages_of run, run.stages)
-
-pub part_small : (run : Run) → run.part < 2 ^ 32
-part_small run = omega (arith, run.parts, (plan_drop (plan_of run) run.left (run_plan run)).small)
-
-module _ (run : Run) (low : 0 < run.left) where
-  pub next_radix_unpacked : radix_before (run.count - run.left) run.radices ≡ next_radix run
-  next_radix_unpacked =
-      let h = run.stages in
-      let after : run.count - (run.left - 1 + 1) ≡ run.count - run.left = omega arith in
-      sym (unpacked_at run.count run.radices (run.left - 1) (omega arith) ∙ ap (λ k. radix_before k run.radices) after)
-
-  pub parts_more : run.part * next_radix run ≡ size (drop (run.left - 1) (plan_of run))
+-- the next radix, and the turns that its stage made
+module _ (run : Run) (low : 0 < run.left) (r : ℕ) (is : r ≡ next_radix run) where
+  pub parts_more : run.part * r ≡ size (drop (run.left - 1) (plan_of run))
   parts_more =
-      mul_comm run.part (next_radix run) ∙ block_size (run_plan run) run.left run.part low (left_within run) run.parts
+      ap (λ x. run.part * x) is ∙ mul_comm run.part (next_radix run)
+      ∙ block_size (run_plan run) run.left run.part low run.stages run.parts
 
-  pub part_fits : run.part * next_radix run < 2 ^ 64
-  part_fits =
-      let r = next_radix run in
-      omega (arith, mul_comm run.part r, block_small (run_plan run) run.left run.part low (left_within run) run.parts)
+  pub part_fits : run.part * r < 2 ^ 32
+  part_fits = omega (arith, parts_more, (plan_drop (plan_of run) (run.left - 1) (run_plan run)).small)
 
-  pub turns_more : run.turns + run.len * next_radix run ≡ run.len * radix_sum (drop (run.left - 1) (plan_of run))
-  turns_more = turned_more (plan_of run) run.left run.len run.turns low (left_within run) run.turned
+  module _ (made : ℕ) (turned : made ≡ size (plan_of run) * r) where
+    pub turns_more : run.turns + made ≡ size (plan_of run) * radix_sum (drop (run.left - 1) (plan_of run))
+    turns_more =
+        ap (λ t. run.turns + t) (turned ∙ ap (λ x. size (plan_of run) * x) is)
+        ∙ turned_more (plan_of run) run.left (size (plan_of run)) run.turns low run.stages run.turned
 
-  pub turns_fit : run.turns + run.len * next_radix run < 2 ^ 64
-  turns_fit = omega (arith, turns_more, turned_fits (run_plan run) (run.left - 1) run.len run.whole)
+    pub turns_fit : run.turns + made < 2 ^ 64
+    turns_fit = omega (arith, turns_more, turned_fits (run_plan run) (run.left - 1) (size (plan_of run)) refl)
 
 -- a stage that suits is answered
 stage_answers : (span r len buf work : ℕ) → StageSuited span r len buf work → stage_turned span r len buf work ≡ Ok (buf * r)
@@ -65,9 +47,9 @@ stage_answers span r len buf work suits =
 
 -- what is known where a stage is granted
 pub record Ready (span : ℕ) (run : Run) (buf work : ℕ) : Type 0 where
-  pub divides : span % run.len ≡ 0
-  pub whole : buf ≡ run.len
-  pub room : run.len + scratch ≤ work
+  pub divides : Divides (size (plan_of run)) span
+  pub whole : buf ≡ size (plan_of run)
+  pub room : size (plan_of run) + scratch ≤ work
   pub some_left : 0 < run.left
 
 module _ (span : ℕ) (run : Run) (buf work : ℕ) where
@@ -91,34 +73,26 @@ module _ (span : ℕ) (run : Run) (buf work : ℕ) where
   pub stepped_onward : (next : Seen) → Ready span run buf work → Ok next ≡ stepped span run buf work → next ≡ onward run
   stepped_onward next h is = let yes = ready_is h in cc
 
-  pub not_refused : (e : Run × Fault) → Ready span run buf work → Err e ≡ stepped span run buf work → ⊥
-  not_refused e h is =
-      let yes = ready_is h in
-      let z : ◌≡◌ {A = ℕ} 0 1 = cc in
-      omega arith
-
   -- its blocks and its memory then suit the stage of its next radix
   pub ready_suits : Ready span run buf work → StageSuited span (next_radix run) run.part buf work
   ready_suits h =
       let low = h.some_left in
-      let within = left_within run in
-      let each = run.each (run.left - 1) (omega arith) in
+      let plan = run_plan run in
+      let small = plan.small in
+      let each = plan.each (run.left - 1) (omega (arith, run.stages)) in
       let block = next_radix run * run.part in
-      let whole : size (plan_of run) % block ≡ 0 = block_divides (run_plan run) run.left run.part low within run.parts in
+      let whole : size (plan_of run) % block ≡ 0 = block_divides plan run.left run.part low run.stages run.parts in
       record {
         least = each.0;
         most = each.1;
-        divides = divides_trans block (size (plan_of run)) span whole (ap (λ n. span % n) (sym run.whole) ∙ h.divides);
-        whole = ap (λ n. n % block) (h.whole ∙ run.whole) ∙ whole;
-        fits = omega (arith, run.small, h.whole);
+        divides = divides_trans block (size (plan_of run)) span whole h.divides;
+        whole = ap (λ n. n % block) h.whole ∙ whole;
+        fits = omega (arith, h.whole);
         room = omega (arith, h.room);
       }
 
-  pub stage_not_refused : (fault : Fault) → Ready span run buf work → Err fault ≡ stage_turned span (next_radix run) run.part buf work → ⊥
-  stage_not_refused fault h is =
-      let yes = stage_answers span (next_radix run) run.part buf work (ready_suits h) in
-      let z : ◌≡◌ {A = ℕ} 0 1 = cc in
-      omega arith
+  pub stage_answered : Ready span run buf work → stage_turned span (next_radix run) run.part buf work ≡ Ok (buf * next_radix run)
+  stage_answered h = stage_answers span (next_radix run) run.part buf work (ready_suits h)
 
 -- the span and the lent memory suit a plan
 pub record Suited (span : ℕ) (rs : List ℕ) (buf work : ℕ) : Type 0 where

@@ -2,15 +2,15 @@
 use Rattle.std.specs.Prelude.{◌≡◌, false, ℕ, ◌+◌, ◌-◌, ◌*◌, cond, List, length, drop, Ok, Err, Result, ◌==◌, slice_index}
 use Rattle.std.specs.Result.{result_and, result_map_both}
 use Rattle.plan.specs.Radices.{size, radix_sum}
+use Rattle.plan.specs.Planned.{radices_of}
 use Rattle.refusal.specs.declared.Fault.{Fault}
 use Rattle.refusal.specs.declared.Fault.TheVariants.{NoStage, StagesLeft}
 use Rattle.runs.specs.declared.run.Run.{Run}
-use Rattle.runs.specs.Packed.{unpacked}
 use Rattle.spectrum.specs.Granted.{divided, lent, plans}
 
 -- the radices of a run's plan
 abbrev pub plan_of : Run → List ℕ
-plan_of run = unpacked run.count run.radices
+plan_of run = radices_of run.plan
 
 -- what is seen of a run: its radices, how many stages are left, and the turns that the others made
 pub record Seen : Type 0 where
@@ -62,12 +62,12 @@ handing_back run r = result_map_both (λ x. x) (λ fault. (run, fault)) r
 -- what a stage asks for: a span and buffers for the run's length, and a stage that is left
 abbrev pub ready : ℕ → Run → ℕ → ℕ → Result (Unit {0}) Fault
 ready span run buf work =
-    result_and (divided span run.len) (result_and (lent run.len buf work) (cond (run.left == 0) (Err NoStage) (Ok tt)))
+    result_and (divided span (size (plan_of run))) (result_and (lent (size (plan_of run)) buf work) (cond (run.left == 0) (Err NoStage) (Ok tt)))
 
 -- the run after its next stage, which turns each of the N elements as often as its radix says
 abbrev pub onward : Run → Seen
 onward run =
-    record { plan = plan_of run; left = run.left - 1; turns = run.turns + run.len * next_radix run }
+    record { plan = plan_of run; left = run.left - 1; turns = run.turns + size (plan_of run) * next_radix run }
 
 -- a stage answers the run that goes on
 abbrev pub stepped : ℕ → Run → ℕ → ℕ → Result Seen (Run × Fault)

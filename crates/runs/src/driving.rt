@@ -26,10 +26,7 @@ pub fn poll<X: Arithmetic>(
     let mut run = Run::deal(radices, buf, work)?;
     let count = polls.min(run.left());
     for _i in 0..count {
-        run = match run.stage(buf, work) {
-            Ok(next) => next,
-            Err(_) => unreachable(),
-        };
+        run = run.stage(buf, work).unwrap();
     }
     Ok(run)
 }
@@ -45,8 +42,5 @@ pub fn poll_through<X: Arithmetic>(
     ensures work { work.new ≡ (if is_ok result then replicate (length work.old) X.Arithmetic.meaning.zero else work.old) }
 {
     let run = poll(radices, radices.len(), buf, work)?;
-    match run.finish() {
-        Ok(turns) => Ok(turns),
-        Err(_) => unreachable(),
-    }
+    Ok(run.finish().unwrap())
 }

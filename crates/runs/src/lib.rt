@@ -2,7 +2,6 @@
 #![tactic(auto)]
 
 mod driving;
-mod packing;
 mod run;
 
 pub use driving::{poll, poll_through};

@@ -1,31 +1,26 @@
 // A transform under way, one stage at a poll. The calls whose clauses cite what a run is stand in a module below.
-ghost use Rattle.std.specs.Prelude.{◌≡◌, ◌*◌, ◌≤◌, IsTrue, drop};
-ghost use Rattle.plan.specs.Radices.{size, radix_sum, most_radices, largest_size, Each};
-ghost use Rattle.runs.specs.Packed.{unpacked};
+ghost use Rattle.std.specs.Prelude.{◌≡◌, ◌*◌, ◌≤◌, IsTrue, length, drop};
+ghost use Rattle.plan.specs.Radices.{size, radix_sum};
+ghost use Rattle.plan.specs.Planned.{radices_of};
+
+use plan::Plan;
 
 mod stepping;
 
 // A token of plain numbers: it holds no part of the buffer, which its caller lends to each stage.
 pub struct Run {
-    // The radices of its plan, packed; how many they are; and their product.
-    radices: u64,
-    count: usize,
-    len: usize,
+    plan: Plan,
     // How many stages are left: those of the first radices.
     left: usize,
-    // The product of the radices whose stages are done.
-    part: usize,
+    // The product of the radices whose stages are done, kept so that no stage multiplies it out again.
+    part: u32,
     // The turns that those stages made.
     turns: usize,
     // Whether it was ended, so that it may be let go. No run that a call hands out was.
     ended: bool,
-    ghost few: { count ≤ most_radices },
-    ghost each: { Each (unpacked count radices) },
-    ghost whole: { len ≡ size (unpacked count radices) },
-    ghost small: { len ≤ largest_size },
-    ghost stages: { left ≤ count },
-    ghost parts: { part ≡ size (drop left (unpacked count radices)) },
-    ghost turned: { turns ≡ len * radix_sum (drop left (unpacked count radices)) },
+    ghost stages: { left ≤ length (radices_of plan) },
+    ghost parts: { part ≡ size (drop left (radices_of plan)) },
+    ghost turned: { turns ≡ size (radices_of plan) * radix_sum (drop left (radices_of plan)) },
 }
 
 impl Run {
@@ -51,10 +46,9 @@ impl Drop for Run {
     fn drop(self)
         requires { IsTrue self.ended }
     {
+        // Each field by its name: with `..` in their place the check takes the run to be let go whole, by this call again.
         let Run {
-            radices: _,
-            count: _,
-            len: _,
+            plan: _,
             left: _,
             part: _,
             turns: _,

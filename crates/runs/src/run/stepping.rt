@@ -1,29 +1,25 @@
 // The calls of a run: dealing begins it, each stage takes it one radix on, and finishing or giving up ends it.
 ghost use Rattle.std.specs.Prelude.{◌≡◌, ◌*◌, ◌<◌, length, replicate, is_ok, IfOk, if◌then◌else◌};
+ghost use Rattle.plan.specs.Radices.{size};
 ghost use Rattle.plan.specs.Dealing.{dealt};
 ghost use Rattle.plan.specs.Planned.{radices_of};
 ghost use Rattle.spectra.specs.Stages.{staged};
 ghost use Rattle.runs.specs.Runs.{seen, as_seen, IsHeld, next_radix, part_size, begun, fresh, ready as ready_for, onward, stepped, finished, resumed};
 
 use super::Run;
-use crate::packing::{packed, radix_before};
 use arithmetic::Arithmetic;
 use plan::Plan;
 use refusal::Fault;
 
 impl Run {
     // The run of a plan, with every stage left.
-    fn begin(plan: &Plan) -> Run
-        ensures answer { seen result ≡ fresh (radices_of plan.now) }
+    fn begin(plan: Plan) -> Run
+        ensures answer { seen result ≡ fresh (radices_of plan) }
         ensures held { IsHeld result }
     {
-        let radices = plan.radices();
-        let count = radices.len();
         Run {
-            radices: packed(radices),
-            count,
-            len: plan.len(),
-            left: count,
+            plan,
+            left: plan.radices().len(),
             part: 1,
             turns: 0,
             ended: false,
@@ -34,7 +30,7 @@ impl Run {
     fn ready<X: Arithmetic>(&self, buf: usize, work: usize) -> Result<(), Fault>
         ensures answer { result ≡ ready_for X.Arithmetic.meaning.span self.now buf work }
     {
-        spectrum::suits::<X>(self.len, buf, work)?;
+        spectrum::granted::<X>(&self.plan, buf, work)?;
         if self.left == 0 {
             return Err(Fault::NoStage);
         }
@@ -42,23 +38,23 @@ impl Run {
     }
 
     // The radix whose stage is next.
-    fn radix(&self) -> usize
+    fn radix(&self) -> u8
         requires { 0 < self.now.left }
         ensures answer { result ≡ next_radix self.now }
     {
-        radix_before(self.count - self.left, self.radices)
+        self.plan.radices()[self.left - 1]
     }
 
     // The run after the stage of this radix, which made these turns.
-    fn step(mut self, radix: usize, made: usize) -> Run
+    fn step(mut self, radix: u8, made: usize) -> Run
         requires left { 0 < self.left }
         requires radix { radix ≡ next_radix self }
-        requires turns { made ≡ self.len * radix }
+        requires turns { made ≡ size (radices_of self.plan) * radix }
         ensures answer { seen result ≡ onward self }
         ensures held { IsHeld self → IsHeld result }
     {
         self.left -= 1;
-        self.part *= radix;
+        self.part *= u32::from(radix);
         self.turns += made;
         self
     }
@@ -72,7 +68,7 @@ impl Run {
         ensures work { work.new ≡ (if is_ok result then replicate (length work.old) X.Arithmetic.meaning.zero else work.old) }
     {
         let plan = spectrum::deal(radices, buf, work)?;
-        Ok(Run::begin(&plan))
+        Ok(Run::begin(plan))
     }
 
     // The run under these radices with so many stages done, or all where there are fewer: for a caller that cannot hold
@@ -82,11 +78,11 @@ impl Run {
         ensures held { IfOk result IsHeld }
     {
         let plan = Plan::new(radices)?;
-        let mut run = Run::begin(&plan);
+        let mut run = Run::begin(plan);
         let count = done.min(run.left);
         for _i in 0..count {
             let radix = run.radix();
-            let made = run.len * radix;
+            let made = plan.len() * usize::from(radix);
             run = run.step(radix, made);
         }
         Ok(run)
@@ -94,6 +90,7 @@ impl Run {
 
     // The next stage, on whatever `buf` holds. A refusal hands the run back and changes nothing, and a granted call
     // leaves zeros in `work`.
+    // The run and the fault go back as a pair: a struct would only name what their types say.
     pub fn stage<X: Arithmetic>(self, buf: &mut [X], work: &mut [X]) -> Result<Run, (Run, Fault)>
         ensures answer { as_seen result ≡ stepped X.Arithmetic.meaning.span self (length buf.old) (length work.old) }
         ensures held { IsHeld self → IfOk result IsHeld }
@@ -104,10 +101,8 @@ impl Run {
             return Err((self, fault));
         }
         let radix = self.radix();
-        match spectrum::stage(radix as u8, self.part as u32, buf, work) {
-            Ok(made) => Ok(self.step(radix, made)),
-            Err(_) => unreachable(),
-        }
+        let made = spectrum::stage(radix, self.part, buf, work).unwrap();
+        Ok(self.step(radix, made))
     }
 
     // The turns that the stages made. Where a stage is left, the run is handed back.

@@ -1,6 +1,6 @@
 use Rattle.std.proofs.Common.{◌≡◌, min, length, replicate, Ok, sym, ap, ◌∙◌, arith}
-use Rattle.runs.specs.Runs.{polled_run, fresh, seen}
-use Rattle.runs.proofs.Underway.{suited_granted, suited_as, suited_answers, suited_kept, stepped_onward, not_refused}
+use Rattle.runs.specs.Runs.{polled_run, fresh, seen, as_seen}
+use Rattle.runs.proofs.Underway.{suited_granted, suited_as, suited_answers, suited_kept, stepped_onward}
 use Rattle.runs.proofs.Polled.{polled_none, polled_ready, polled_more, polled_seen, polled_blocks}
 use Rattle.runs.proofs.driving.poll.Goals as goal
 
@@ -19,24 +19,19 @@ loop-i-init g c =
       c.in_ok-run.ensures.held,
     )
 
-pub unreachable-requires : goal.unreachable-requires
-unreachable-requires g c =
-    let inv = c.loop-i.invariant in
-    let ready = polled_ready g.X.Arithmetic.meaning inv.0 _ _ _ inv.1 (omega (arith, inv.2)) in
-    not_refused _ _ _ _ c.in-Err.field-0 ready c.in-Err.ensures.answer
-
 pub loop-i-preserved : goal.loop-i-preserved
 loop-i-preserved g c =
     let m = g.X.Arithmetic.meaning in
     let inv = c.loop-i.invariant in
-    let next = c.in-Ok.next in
+    let next = c.unwrap-run.result in
+    let granted = c.unwrap-run.ensures in
     let ready = polled_ready m inv.0 _ _ _ inv.1 (omega (arith, inv.2)) in
-    let on = stepped_onward _ _ _ _ (seen next) ready c.in-Ok.ensures.answer in (
-      polled_more m inv.0 next _ (omega (arith, inv.2)) on c.in-Ok.ensures.after,
+    let on = stepped_onward _ _ _ _ (seen next) ready (sym (ap as_seen granted) ∙ c.stage.ensures.answer) in (
+      polled_more m inv.0 next _ (omega (arith, inv.2)) on (rw granted at c.stage.ensures.after),
       suited_kept _ _ inv.1 c.stage.auto.buf c.stage.auto.work,
       inv.2,
-      c.in-Ok.ensures.work ∙ ap (λ n. replicate n m.zero) c.loop-i.auto.work,
-      c.in-Ok.ensures.held inv.4,
+      (rw granted at c.stage.ensures.work) ∙ ap (λ n. replicate n m.zero) c.loop-i.auto.work,
+      (rw granted at c.stage.ensures.held) inv.4,
     )
 
 pub returns : goal.returns

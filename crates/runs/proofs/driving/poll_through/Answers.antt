@@ -1,4 +1,4 @@
-use Rattle.std.proofs.Common.{◌≡◌, ℕ, ◌-◌, ◌*◌, [], length, take, drop, Ok, ap, ◌∙◌, subst, arith}
+use Rattle.std.proofs.Common.{◌≡◌, ℕ, ◌-◌, ◌*◌, [], length, take, drop, Ok, sym, ap, ◌∙◌, subst, arith}
 use Rattle.plan.specs.Radices.{size, radix_sum, turns}
 use Rattle.runs.specs.Runs.{polled_run, seen}
 use Rattle.spectra.specs.ByBlocks.{ByBlocks}
@@ -23,7 +23,7 @@ returns g c =
     let turned : run.turns ≡ turns rs = ap (λ s. s.turns) is ∙ ap (λ k. size rs * radix_sum (drop k rs)) none in
     let blocks : ByBlocks m [] rs buf after = subst (λ (k : ℕ). ByBlocks m (take k rs) (drop k rs) buf after) left c.in_ok-run.ensures.after in
     record {
-      answer = ap Ok (finished_turns run c.in-Ok.turns c.in-Ok.ensures.answer ∙ turned)
+      answer = ap Ok (finished_turns run c.unwrap.result (sym c.unwrap.ensures ∙ c.finish.ensures.answer) ∙ turned)
           ∙ suited_answers m.span rs (length buf) (length work) (turns rs) granted;
       after = blocks_all m rs buf after granted.whole (c.poll.auto.buf ∙ granted.whole) blocks;
       work = c.in_ok-run.ensures.work;
