@@ -9,10 +9,14 @@ use Rattle.crossing.specs.declared.status.Status.{Status}
 abbrev pub granted : Status
 granted = record { number = 0; layer = 0; place = 0 }
 
+-- the status of a call that is refused
+abbrev pub refused : Fault → Status
+refused f = record { number = number_of f; layer = layer_number (layer_of f); place = place_of f }
+
 -- the status of a call by its result
 abbrev pub status_of : {X : Type 0} → Result X Fault → Status
 status_of (Ok x) = granted
-status_of (Err f) = record { number = number_of f; layer = layer_number (layer_of f); place = place_of f }
+status_of (Err f) = refused f
 
 -- what lies where the answer goes: the answer, or what was there where the call is refused
 abbrev pub answer_or : {X : Type 0} → X → Result X Fault → X

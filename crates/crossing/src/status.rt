@@ -1,10 +1,10 @@
 // What every call answers: that it is granted, or by which number, layer and place it is refused.
 ghost use Rattle.std.specs.Prelude.{◌≡◌};
-ghost use Rattle.crossing.specs.Answers.{granted, status_of, answer_or};
+ghost use Rattle.crossing.specs.Answers.{refused, status_of, answer_or};
 
 use refusal::Fault;
 
-// All zero where the call is granted: no refusal has the number 0.
+// All zero where the call is granted: no refusal has the number 0. C has no Result, so the numbers stand here plain.
 #[derive(Clone, Copy)]
 #[repr(C)]
 pub struct Status {
@@ -13,13 +13,21 @@ pub struct Status {
     pub place: usize,
 }
 
-fn granted() -> Status
-    ensures answer { result ≡ granted }
-{
-    Status {
-        number: 0,
-        layer: 0,
-        place: 0,
+const GRANTED: Status = Status {
+    number: 0,
+    layer: 0,
+    place: 0,
+};
+
+impl From<Fault> for Status {
+    ghost from_gives = { λ f r. r ≡ refused f };
+
+    fn from(fault: Fault) -> Status {
+        Status {
+            number: u32::from(fault.number()),
+            layer: u32::from(fault.layer().number()),
+            place: fault.place(),
+        }
     }
 }
 
@@ -28,12 +36,8 @@ pub fn settled(res: Result<(), Fault>) -> Status
     ensures answer { result ≡ status_of res }
 {
     match res {
-        Ok(()) => granted(),
-        Err(fault) => Status {
-            number: u32::from(fault.number()),
-            layer: u32::from(fault.layer().number()),
-            place: fault.place(),
-        },
+        Ok(()) => GRANTED,
+        Err(fault) => Status::from(fault),
     }
 }
 
@@ -45,8 +49,8 @@ pub fn answered<T: Copy>(res: Result<T, Fault>, out: &mut T) -> Status
     match res {
         Ok(answer) => {
             *out = answer;
-            granted()
+            GRANTED
         }
-        Err(fault) => settled(Err(fault)),
+        Err(fault) => Status::from(fault),
     }
 }

@@ -14,16 +14,19 @@ fn set_down(run: Run) {
     run.give_up::<Fixed>(&mut []);
 }
 
+// Why a run was handed back. It is set down too.
+fn refused(handed_back: (Run, Fault)) -> Fault
+    ensures answer { result ≡ handed_back.1 }
+{
+    let (run, fault) = handed_back;
+    set_down(run);
+    fault
+}
+
 pub fn deal<X: Arithmetic>(radices: &[u8], buf: &mut [X], work: &mut [X]) -> Status
     ensures made { Deals X.Arithmetic.meaning radices.now buf.old work.old result buf.new work.new }
 {
-    match Run::deal(radices, buf, work) {
-        Ok(run) => {
-            set_down(run);
-            settled(Ok(()))
-        }
-        Err(fault) => settled(Err(fault)),
-    }
+    settled(Run::deal(radices, buf, work).map(set_down))
 }
 
 fn step<X: Arithmetic>(
@@ -37,31 +40,14 @@ fn step<X: Arithmetic>(
     ensures work { work.new ≡ cleared X.Arithmetic.meaning result work.old }
 {
     let run = Run::resume(radices, done)?;
-    match run.stage(buf, work) {
-        Ok(next) => {
-            set_down(next);
-            Ok(())
-        }
-        Err(e) => {
-            let (run, fault) = e;
-            set_down(run);
-            Err(fault)
-        }
-    }
+    run.stage(buf, work).map(set_down).map_err(refused)
 }
 
 fn finish_held(radices: &[u8], done: usize) -> Result<usize, Fault>
     ensures answer { result ≡ finishing radices.now done }
 {
     let run = Run::resume(radices, done)?;
-    match run.finish() {
-        Ok(turns) => Ok(turns),
-        Err(e) => {
-            let (run, fault) = e;
-            set_down(run);
-            Err(fault)
-        }
-    }
+    run.finish().map_err(refused)
 }
 
 // The stage after `done` of them.
