@@ -1,56 +1,30 @@
--- The search for the first field that is beyond its limits, one sample at a time.
-use Rattle.std.proofs.Common.{◌≡◌, ℕ, zero, suc, ◌+◌, ◌-◌, ◌*◌, ◌/◌, ◌<◌, ◌≤◌, Bool, true, false, ◌⊎◌, List, length, get_or, ℤ, pos, Some, None, Option, unwrap_or, sym, refl, ap, ◌∙◌, inl, inr, ⊎_elim, eq-or-lt_of_le, arith}
-use Rattle.std.specs.List.{slice_get}
-use Rattle.std.proofs.lemmas.List.{get_or_past}
+-- The search for the first field that is beyond its limits.
+use Rattle.std.proofs.Common.{◌≡◌, ℕ, zero, suc, ◌+◌, ◌/◌, ◌<◌, ◌≤◌, Bool, true, false, ◌⊎◌, List, length, get_or, pos, IsSomeAnd, IfSome, MatchOption, Some, None, Option, sym, refl, subst, ap, ◌∙◌, inl, inr, ⊎_elim, zero-add, eq-or-lt_of_le, arith}
+use denote.Param.Members.{Mut}
+use Rattle.std.specs.declared.ops.Range.{Range}
+use Rattle.std.specs.Fn.{Called}
+use Rattle.std.specs.Option.{option_map}
+use Rattle.std.specs.Iterator.Runs.{Run, SomeRun, AllItemsGive, IsFirstToGive, CallKeepsClosure, ItemsCountUp}
+use Rattle.std.proofs.iter.Yields.{nat_range_steps}
+use Rattle.std.proofs.iter.runs.Sources.{range_runs}
 use Rattle.std.proofs.lemmas.List.FromFn.{length-map-range_with_len}
+use Rattle.std.proofs.lemmas.Option.{slice_get-get_or}
 use Rattle.std.proofs.lemmas.Bool.Decides.{nat_tests}
-use Rattle.stroke.specs.Contents.{Contents, pressures, field_beyond, here_or, beyond_at, beyond_from, first_beyond}
-use Rattle.stroke.specs.Layout.{field_size, sample_size, field_at}
+use Rattle.stroke.specs.declared.fields.Field.{Field}
+use Rattle.stroke.specs.Contents.{Contents, path_at, pressures, sample, here_or, beyond_at, beyond_from, first_beyond}
+use Rattle.stroke.specs.Layout.{field_size, field_offset, sample_size, field_at}
 use Rattle.stroke.specs.Reading.{stroke_of}
-use Rattle.stroke.proofs.Indexed.{get_or_nth, nth_none, nth_or}
-use Rattle.stroke.proofs.Samples.{sample_inside, pressure_past}
+use Rattle.stroke.proofs.Samples.{sample_inside}
+use Rattle.stroke.proofs.Soundness.{each_none}
 
--- by what the path and the pressure answer at i
-pub beyond_there : (c : Contents) (i : ℕ) (x y : ℤ) (u : ℕ) → Some (x, y) ≡ slice_get c.path i → u ≡ unwrap_or (slice_get (pressures c) i) 0
-    → field_beyond x y u ≡ beyond_at c i
-beyond_there c i x y u e p = let there = get_or_nth c.path i (x, y) (pos 0, pos 0) e in rw (there, p, nth_or (pressures c) i 0)
-
-pub beyond_past : (pressed : Bool) (bs : List ℕ) (i : ℕ) → slice_get (stroke_of pressed bs).path i ≡ None → beyond_at (stroke_of pressed bs) i ≡ None
-beyond_past pressed bs i e =
-    let past = nth_none (stroke_of pressed bs).path i (pos 0, pos 0) e in
-    let us = pressures (stroke_of pressed bs) in
-    let none : get_or us i 0 ≡ 0 = sym (nth_or us i 0) ∙ ap (λ o. unwrap_or o 0) (pressure_past pressed bs i past) in
-    rw (get_or_past (stroke_of pressed bs).path i (pos 0, pos 0) past, none)
-
--- nothing is beyond its limits before sample i
-abbrev pub Passed : Contents → ℕ → Type 0
-Passed c i = first_beyond c ≡ beyond_from c i (length c.path - i)
-
--- the search from sample i on looks at i first
-step : (c : Contents) (i : ℕ) (o : Option ℕ) → i < length c.path → Passed c i → beyond_at c i ≡ o
-    → first_beyond c ≡ here_or i o (beyond_from c (i + 1) (length c.path - (i + 1)))
-unfolding beyond_from
-step c i o h passed e = let more : length c.path - i ≡ suc (length c.path - (i + 1)) = omega arith in passed ∙ rw (more, e)
-
-pub first_found : (c : Contents) (i f : ℕ) → i < length c.path → Passed c i → Some f ≡ beyond_at c i → Some (i, f) ≡ first_beyond c
-first_found c i f h passed e = sym (step c i (Some f) h passed (sym e))
-
-pub passed_more : (c : Contents) (i : ℕ) → i < length c.path → Passed c i → None ≡ beyond_at c i → Passed c (i + 1)
-passed_more c i h passed e = step c i None h passed (sym e)
-
--- past the last sample it finds nothing
-pub first_none : (c : Contents) (i : ℕ) → length c.path ≤ i → Passed c i → None ≡ first_beyond c
-unfolding beyond_from
-first_none c i h passed = let none : length c.path - i ≡ 0 = omega arith in sym (passed ∙ rw none)
-
-here_or_later : (i j f : ℕ) (o : Option ℕ) (later : Option (ℕ × ℕ)) → here_or i o later ≡ Some (j, f)
+-- ---- what the search finds is the first of the samples that it looked at
+here_or_later : (i j : ℕ) (f : Field) (o : Option Field) (later : Option (ℕ × Field)) → here_or i o later ≡ Some (j, f)
     → ((i ≡ j) × (o ≡ Some f)) ⊎ ((o ≡ None) × (later ≡ Some (j, f)))
 here_or_later i j f (Some g) later e =
-    let same : ◌≡◌ {A = ℕ × ℕ} (i, g) (j, f) = cc in inl (ap (λ p. p.0) same, ap (λ p. Some p.1) same)
+    let same : ◌≡◌ {A = ℕ × Field} (i, g) (j, f) = cc in inl (ap (λ p. p.0) same, ap (λ p. Some p.1) same)
 here_or_later i j f None later e = inr (refl, e)
 
--- what the search finds is the first of the samples that it looked at
-pub first_from : (c : Contents) (n i j f : ℕ) → beyond_from c i n ≡ Some (j, f)
+pub first_from : (c : Contents) (n i j : ℕ) (f : Field) → beyond_from c i n ≡ Some (j, f)
     → (j < i + n) × (beyond_at c j ≡ Some f) × ((k : ℕ) → i ≤ k → k < j → beyond_at c k ≡ None)
 unfolding beyond_from
 first_from c zero i j f e = let z : ◌≡◌ {A = ℕ} 0 1 = cc in absurd (omega arith)
@@ -66,12 +40,74 @@ first_from c (suc n) i j f e =
     ))
     (here_or_later i j f (beyond_at c i) (beyond_from c (i + 1) n) e)
 
-field_fits : (pressed : Bool) (bs : List ℕ) (i f : ℕ) → beyond_at (stroke_of pressed bs) i ≡ Some f → f * field_size + field_size ≤ sample_size pressed
+-- and the other way round
+first_found : (c : Contents) (n i j : ℕ) (f : Field) → i ≤ j → j < i + n → ((k : ℕ) → i ≤ k → k < j → beyond_at c k ≡ None) → beyond_at c j ≡ Some f
+    → beyond_from c i n ≡ Some (j, f)
+unfolding beyond_from
+first_found c zero i j f low high before here = absurd (omega arith)
+first_found c (suc n) i j f low high before here =
+    ⊎_elim
+    (λ (same : i ≡ j). rw (same, here))
+    (λ (less : i < j).
+    rw (before i (omega arith) less)
+    (first_found c n (i + 1) j f (omega arith) (omega arith) (λ k a b. before k (omega arith) b) here))
+    (eq-or-lt_of_le low)
+
+-- ---- `find_map` over the samples
+pub sample_there : (c : Contents) (i : ℕ) → i < length c.path → sample c i ≡ Some ((path_at c i).0, (path_at c i).1, get_or (pressures c) i 0)
+sample_there c i h = ap (option_map (λ p. (p.0, p.1, get_or (pressures c) i 0))) (slice_get-get_or c.path i (pos 0, pos 0) h)
+
+none_here : (i : ℕ) (o : Option Field) → None ≡ here_or i o None → o ≡ None
+none_here i None e = refl
+none_here i (Some f) e = let z : ◌≡◌ {A = ℕ} 0 1 = cc in absurd (omega arith)
+
+some_here : (i : ℕ) (o : Option Field) (y : ℕ × Field) → Some y ≡ here_or i o None → (y.0 ≡ i) × (o ≡ Some y.1)
+some_here i None y e = let z : ◌≡◌ {A = ℕ} 0 1 = cc in absurd (omega arith)
+some_here i (Some f) y e = let same : y ≡ (i, f) = cc in (ap (λ p. p.0) same, sym (ap (λ p. Some p.1) same))
+
+number : (o : Option ℕ) (i : ℕ) → option_map (λ k. k) o ≡ Some (0 + i) → o ≡ Some i
+number (Some k) i e = e ∙ ap Some (zero-add i)
+number None i e = let z : ◌≡◌ {A = ℕ} 0 1 = cc in absurd (omega arith)
+
+module _ {F : Type 0} (g : Mut F (ℕ × Unit {0}) (Option (ℕ × Field))) (c : Contents) (f : F) (keeps : CallKeepsClosure g f)
+    (each : (i : ℕ) (r : Option (ℕ × Field)) → i < length c.path → Called g f (i, tt) r f → r ≡ here_or i (beyond_at c i) None) where
+  abbrev Answers : Option (ℕ × Field) → Run nat_range_steps → Type 0
+  Answers r p = MatchOption r ((p.whole ≡ true) × AllItemsGive p g f None) (λ y. (i : ℕ) × (i < p.len) × (p.len ≡ i + 1) × IsFirstToGive p g f (Some y) None i)
+
+  pub search_answers : (s : Range ℕ) → s ≡ record { start = 0; end = length c.path } → (r : Option (ℕ × Field)) → SomeRun nat_range_steps s (Answers r)
+      → r ≡ first_beyond c
+  search_answers s e r (p, from, is) = answers r is
+    where
+      n : ℕ
+      n = length c.path
+
+      same : p.from ≡ record { start = 0; end = n }
+      same = from ∙ e
+
+      counts : ItemsCountUp p 0 n
+      counts = subst (λ (s : Range ℕ). ItemsCountUp p s.start s.end) same (range_runs p p.seen)
+
+      at : (k : ℕ) → k < p.len → p.at k ≡ Some k
+      at k h = number (p.at k) k (counts.3 k h)
+
+      answers : (r : Option (ℕ × Field)) → Answers r p → r ≡ first_beyond c
+      answers None h =
+          sym (each_none c n 0 (λ j low high.
+          none_here j (beyond_at c j) (each j None (omega arith) (subst (λ o. IfSome o (λ x. Called g f (x, tt) None f)) (at j (omega (arith, counts.1 h.0))) (h.1 keeps j)))))
+      answers (Some y) (i, inside, last, first) =
+          let h = first keeps in
+          let low : i < n = omega (arith, counts.0) in
+          let here = some_here i (beyond_at c i) y (each i (Some y) low (subst (λ o. IsSomeAnd o (λ x. Called g f (x, tt) (Some y) f)) (at i inside) h.0)) in
+          sym (first_found c n 0 i y.1 (omega arith) (omega arith) (λ k a b.
+          none_here k (beyond_at c k) (each k None (omega arith) (subst (λ o. IsSomeAnd o (λ x. Called g f (x, tt) None f)) (at k (omega arith)) (h.1 k b))))
+          here.1 ∙ ap (λ k. Some (k, y.1)) (sym here.0))
+
+-- ---- so it lies within the samples' bytes
+field_fits : (pressed : Bool) (bs : List ℕ) (i : ℕ) (f : Field) → beyond_at (stroke_of pressed bs) i ≡ Some f → field_offset f + field_size ≤ sample_size pressed
 field_fits true bs i f e = grind (arith, nat_tests)
 field_fits false bs i f e = grind (arith, nat_tests)
 
--- so it lies within the samples' bytes
-pub field_inside : (pressed : Bool) (bs : List ℕ) (i f : ℕ) → Some (i, f) ≡ first_beyond (stroke_of pressed bs) → field_at pressed i f < length bs
+pub field_inside : (pressed : Bool) (bs : List ℕ) (i : ℕ) (f : Field) → Some (i, f) ≡ first_beyond (stroke_of pressed bs) → field_at pressed i f < length bs
 field_inside pressed bs i f e =
     let found = first_from (stroke_of pressed bs) (length (stroke_of pressed bs).path) 0 i f (sym e) in
     let there : i < length bs / sample_size pressed = omega (arith, simp length-map-range_with_len at found.0) in

@@ -2,6 +2,7 @@
 use Rattle.std.proofs.Common.{◌≡◌, ℕ, suc, ◌+◌, ◌*◌, ◌<◌, Bool, true, false, List, map, length, get_or, ℤ, pos, is_some, Some, None, Option, sym, refl, ap, ◌∙◌, arith, w16, to_z}
 use Rattle.std.specs.List.{range_with_len}
 use Rattle.std.proofs.lemmas.List.FromFn.{fill_by_all}
+use Rattle.stroke.specs.declared.fields.Field.TheVariants.{X, Y, Pressure}
 use Rattle.stroke.specs.Contents.{Contents, Sound, path_at}
 use Rattle.stroke.specs.Layout.{sample_size, field_at, word, signed_word}
 use Rattle.stroke.specs.Reading.{samples_of, stroke_of}
@@ -45,13 +46,13 @@ four_at_least false = omega arith
 path_back : (c : Contents) → Sound c → (stroke_of (flag c) (samples_bytes c)).path ≡ c.path
 path_back c h =
     rw (count_back c)
-    (sym (fill_by_all (λ i. (signed_word (samples_bytes c) (field_at (flag c) i 0), signed_word (samples_bytes c) (field_at (flag c) i 1)))
+    (sym (fill_by_all (λ i. (signed_word (samples_bytes c) (field_at (flag c) i X), signed_word (samples_bytes c) (field_at (flag c) i Y)))
     c.path (length c.path) (pos 0, pos 0) refl
     (λ i k.
     let near = near_at c h i in
-    let x : signed_word (samples_bytes c) (field_at (flag c) i 0) ≡ (path_at c i).0 =
+    let x : signed_word (samples_bytes c) (field_at (flag c) i X) ≡ (path_at c i).0 =
     ap (to_z w16) (word_back c i 0 k (omega (arith, four_at_least (flag c)))) ∙ signed_back (path_at c i).0 near.0 in
-    let y : signed_word (samples_bytes c) (field_at (flag c) i 1) ≡ (path_at c i).1 =
+    let y : signed_word (samples_bytes c) (field_at (flag c) i Y) ≡ (path_at c i).1 =
     ap (to_z w16) (word_back c i 2 k (four_at_least (flag c))) ∙ signed_back (path_at c i).1 near.1 in
     rw (x, y))))
 
@@ -60,9 +61,9 @@ pressure_back : (ps : List (ℤ × ℤ)) (o : Option (List ℕ)) → Sound (reco
 pressure_back ps None h = refl
 pressure_back ps (Some us) h =
     let c : Contents = record { path = ps; pressure = Some us } in
-    let back : map (λ i. word (samples_bytes c) (field_at true i 2)) (range_with_len 0 (samples_of true (samples_bytes c))) ≡ us =
+    let back : map (λ i. word (samples_bytes c) (field_at true i Pressure)) (range_with_len 0 (samples_of true (samples_bytes c))) ≡ us =
     rw (count_back c)
-    (sym (fill_by_all (λ i. word (samples_bytes c) (field_at true i 2)) us (length ps) 0 h.pressed.0
+    (sym (fill_by_all (λ i. word (samples_bytes c) (field_at true i Pressure)) us (length ps) 0 h.pressed.0
     (λ i k. sym (word_back c i 4 k (omega arith) ∙ two_back (get_or us i 0) (omega (arith, pressure_low c h i)))))) in
     ap Some back
 

@@ -6,6 +6,8 @@ use Rattle.std.proofs.lemmas.List.Edits.{length-between}
 use Rattle.std.proofs.ByRecursion.{All-take, All-drop}
 use Rattle.std.proofs.lemmas.List.{drop_all, drop_more, drop-drop, take-append-drop}
 use Rattle.std.proofs.lemmas.Bool.Decides.{nat_tests}
+use Rattle.stroke.specs.declared.fields.Field.{Field}
+use Rattle.stroke.specs.declared.fields.Field.TheVariants.{X, Y, Pressure}
 use Rattle.stroke.specs.Contents.{Contents, Sound, path_at, first_beyond}
 use Rattle.stroke.specs.Layout.{version, trailer_size, sample_size, field_at, word, signed_word, two_bytes, signed_bytes}
 use Rattle.stroke.specs.Reading.{samples_of, stroke_of, from_end, distance_in, count_in, flag_in, pressed_in, trailer_in, start_in, samples_in, stroke_in, unless_beyond}
@@ -50,9 +52,9 @@ module _ (bs : List ℕ) (bytes : (k : ℕ) → get_or bs k 0 < 256) where
       signed_bytes_are (get_or bs (at + o) 0) (get_or bs (at + o + 1) 0) (bytes (at + o)) (bytes (at + o + 1)) ∙ next at o
 
   path_is : (pressed : Bool) (i : ℕ) → i < samples_of pressed bs
-      → path_at (stroke_of pressed bs) i ≡ (signed_word bs (field_at pressed i 0), signed_word bs (field_at pressed i 1))
+      → path_at (stroke_of pressed bs) i ≡ (signed_word bs (field_at pressed i X), signed_word bs (field_at pressed i Y))
   path_is pressed i h =
-      get_or-map-range_with_len (λ i. (signed_word bs (field_at pressed i 0), signed_word bs (field_at pressed i 1))) 0 (samples_of pressed bs) i i (pos 0, pos 0) h (omega arith)
+      get_or-map-range_with_len (λ i. (signed_word bs (field_at pressed i X), signed_word bs (field_at pressed i Y))) 0 (samples_of pressed bs) i i (pos 0, pos 0) h (omega arith)
 
   x_is : (pressed : Bool) (i : ℕ) → i < samples_of pressed bs
       → signed_bytes (path_at (stroke_of pressed bs) i).0 ≡ get_or bs (i * sample_size pressed + 0) 0 ∷ get_or bs (i * sample_size pressed + 1) 0 ∷ []
@@ -65,7 +67,7 @@ module _ (bs : List ℕ) (bytes : (k : ℕ) → get_or bs k 0 < 256) where
   pressure_is : (pressed : Bool) (i : ℕ) → i < samples_of pressed bs
       → pressure_bytes (stroke_of pressed bs).pressure i ≡ cond pressed (get_or bs (i * sample_size pressed + 4) 0 ∷ get_or bs (i * sample_size pressed + 5) 0 ∷ []) []
   pressure_is true i h =
-      ap two_bytes (get_or-map-range_with_len (λ i. word bs (field_at true i 2)) 0 (samples_of true bs) i i 0 h (omega arith)) ∙ two_at (i * 6) 4
+      ap two_bytes (get_or-map-range_with_len (λ i. word bs (field_at true i Pressure)) 0 (samples_of true bs) i i 0 h (omega arith)) ∙ two_at (i * 6) 4
   pressure_is false i h = refl
 
   all_fields : (pressed : Bool) (i : ℕ) → i < samples_of pressed bs
@@ -111,7 +113,7 @@ three_parts bs a e h =
     let rest : between a e bs ++ drop e bs ≡ drop a bs = ap (λ k. between a e bs ++ drop k bs) (sym to) ∙ ap (λ ys. between a e bs ++ ys) (sym (drop-drop (e - a) a bs)) ∙ take-append-drop (e - a) (drop a bs) in
     sym (ap (λ ys. take a bs ++ ys) rest ∙ take-append-drop a bs)
 
-unless_ok : (bs : List ℕ) (o : Option (ℕ × ℕ)) (c : Contents) → unless_beyond bs o ≡ Ok c → (o ≡ None) × (stroke_in bs ≡ c)
+unless_ok : (bs : List ℕ) (o : Option (ℕ × Field)) (c : Contents) → unless_beyond bs o ≡ Ok c → (o ≡ None) × (stroke_in bs ≡ c)
 unless_ok bs None c e = (refl, cc)
 unless_ok bs (Some at) c e = let z : ◌≡◌ {A = ℕ} 0 1 = cc in absurd (omega arith)
 

@@ -1,21 +1,11 @@
 -- Lists by index: what `nth` finds, and what holds at every index.
-use Rattle.std.proofs.Common.{◌≡◌, ℕ, ◌<◌, ◌≤◌, List, map, length, get_or, Some, None, unwrap_or, ap, ◌∙◌, ⊎_elim, arith}
+use Rattle.std.proofs.Common.{◌≡◌, ℕ, ◌<◌, ◌≤◌, List, map, length, get_or, Some, unwrap_or, ap, ◌∙◌, ⊎_elim, arith}
 use Rattle.std.specs.List.{slice_get, range_with_len, AllByRecursion}
 use Rattle.std.proofs.lemmas.List.FromFn.{length-map-range_with_len, get_or-map-range_with_len}
 use Rattle.std.proofs.ByRecursion.{All-get_or}
 use Rattle.std.proofs.lemmas.List.{get_or_past}
 use Rattle.std.proofs.lemmas.Option.{slice_get-get_or, slice_get_past}
 use Rattle.std.proofs.lemmas.Bool.{cases_lt}
-
-pub get_or_nth : {X : Type 0} (xs : List X) (i : ℕ) (x d : X) → Some x ≡ slice_get xs i → get_or xs i d ≡ x
-get_or_nth xs i x d e = grind (arith, slice_get-get_or, slice_get_past)
-
-pub nth_none : {X : Type 0} (xs : List X) (i : ℕ) (d : X) → slice_get xs i ≡ None → length xs ≤ i
-nth_none xs i d e =
-    ⊎_elim
-    (λ (less : i < length xs). let there = slice_get-get_or xs i d less in let z : ◌≡◌ {A = ℕ} 0 1 = cc in absurd (omega arith))
-    (λ (past : length xs ≤ i). past)
-    (cases_lt i (length xs))
 
 pub nth_or : {X : Type 0} (xs : List X) (i : ℕ) (d : X) → unwrap_or (slice_get xs i) d ≡ get_or xs i d
 nth_or xs i d = grind (arith, slice_get-get_or, slice_get_past, get_or_past)

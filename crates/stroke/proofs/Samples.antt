@@ -1,8 +1,8 @@
 -- The samples that lie in a list of bytes, one by one.
-use Rattle.std.proofs.Common.{◌≡◌, ℕ, ◌+◌, ◌*◌, ◌/◌, ◌<◌, ◌≤◌, Bool, true, false, List, length, is_some, IfSome, Some, None, refl, arith}
+use Rattle.std.proofs.Common.{◌≡◌, ℕ, ◌+◌, ◌*◌, ◌/◌, ◌<◌, ◌≤◌, Bool, true, false, List, length, is_some, IfSome, Some, refl, arith}
 use Rattle.std.specs.List.{slice_get}
 use Rattle.std.proofs.lemmas.List.FromFn.{length-map-range_with_len}
-use Rattle.std.proofs.lemmas.Option.{slice_get_past}
+use Rattle.stroke.specs.declared.fields.Field.TheVariants.{Pressure}
 use Rattle.stroke.specs.Contents.{pressures}
 use Rattle.stroke.specs.Layout.{sample_size, field_at, word}
 use Rattle.stroke.specs.Reading.{samples_of, stroke_of}
@@ -25,13 +25,9 @@ whole_samples true n len e = omega arith
 whole_samples false n len e = omega arith
 
 -- as many pressures as samples, where there is any
-pub pressure_past : (pressed : Bool) (bs : List ℕ) (i : ℕ) → length (stroke_of pressed bs).path ≤ i → slice_get (pressures (stroke_of pressed bs)) i ≡ None
-pressure_past true bs i h = slice_get_past (pressures (stroke_of true bs)) i (simp length-map-range_with_len (simp length-map-range_with_len at h))
-pressure_past false bs i h = refl
-
 pub pressure_there : (pressed : Bool) (bs : List ℕ) (i : ℕ) → pressed ≡ true → i < length (stroke_of pressed bs).path
-    → slice_get (pressures (stroke_of pressed bs)) i ≡ Some (word bs (field_at pressed i 2))
-pressure_there true bs i e h = nth_map_counting (λ i. word bs (field_at true i 2)) (samples_of true bs) i (simp length-map-range_with_len at h)
+    → slice_get (pressures (stroke_of pressed bs)) i ≡ Some (word bs (field_at pressed i Pressure))
+pressure_there true bs i e h = nth_map_counting (λ i. word bs (field_at true i Pressure)) (samples_of true bs) i (simp length-map-range_with_len at h)
 pressure_there false bs i e h = let z : ◌≡◌ {A = ℕ} 0 1 = cc in absurd (omega arith)
 
 pub pressures_count : (pressed : Bool) (bs : List ℕ) → IfSome (stroke_of pressed bs).pressure (λ us. length us ≡ length (stroke_of pressed bs).path)

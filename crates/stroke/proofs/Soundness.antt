@@ -1,10 +1,11 @@
 -- A stroke is sound exactly where no field of it is beyond its limits, given its length and its pressures' number.
 use Rattle.std.proofs.Common.{◌≡◌, ℕ, zero, suc, ◌+◌, ◌<◌, ◌≤◌, List, [], length, get_or, ℤ, pos, nat_abs, IfSome, Some, None, Option, unwrap_or, refl, ap, ⊎_elim, zero-le, eq-or-lt_of_le, arith}
-use Rattle.std.specs.List.{slice_get, AllByRecursion}
+use Rattle.std.specs.List.{AllByRecursion}
 use Rattle.std.proofs.ByRecursion.{All-from_get_or}
 use Rattle.std.proofs.lemmas.Bool.Decides.{nat_tests}
+use Rattle.stroke.specs.declared.fields.Field.{Field}
 use Rattle.stroke.specs.Contents.{Contents, Sound, Near, limit, most_samples, path_at, pressures, field_beyond, beyond_at, here_or, beyond_from, first_beyond}
-use Rattle.stroke.proofs.Indexed.{get_or_nth, all_at}
+use Rattle.stroke.proofs.Indexed.{all_at}
 
 within_limits : (x y : ℤ) (u : ℕ) → nat_abs x ≤ limit → nat_abs y ≤ limit → u ≤ limit → field_beyond x y u ≡ None
 within_limits x y u a b h = grind (arith, nat_tests)
@@ -12,7 +13,7 @@ within_limits x y u a b h = grind (arith, nat_tests)
 limits_kept : (x y : ℤ) (u : ℕ) → field_beyond x y u ≡ None → (nat_abs x ≤ limit) × (nat_abs y ≤ limit) × (u ≤ limit)
 limits_kept x y u e = (grind (arith, nat_tests), grind (arith, nat_tests), grind (arith, nat_tests))
 
-passed_none : (i : ℕ) (o : Option ℕ) (later : Option (ℕ × ℕ)) → here_or i o later ≡ None → (o ≡ None) × (later ≡ None)
+passed_none : (i : ℕ) (o : Option Field) (later : Option (ℕ × Field)) → here_or i o later ≡ None → (o ≡ None) × (later ≡ None)
 passed_none i (Some f) later e = let z : ◌≡◌ {A = ℕ} 0 1 = cc in absurd (omega arith)
 passed_none i None later e = (refl, e)
 
@@ -27,7 +28,7 @@ none_each c (suc n) i e j low high =
     (λ (less : i < j). none_each c n (i + 1) h.1 j (omega arith) (omega arith))
     (eq-or-lt_of_le low)
 
-each_none : (c : Contents) (n i : ℕ) → ((j : ℕ) → i ≤ j → j < i + n → beyond_at c j ≡ None) → beyond_from c i n ≡ None
+pub each_none : (c : Contents) (n i : ℕ) → ((j : ℕ) → i ≤ j → j < i + n → beyond_at c j ≡ None) → beyond_from c i n ≡ None
 unfolding beyond_from
 each_none c zero i each = refl
 each_none c (suc n) i each =
@@ -65,10 +66,3 @@ sound_none c h =
     (λ j low high.
     let near = near_at c h j in
     within_limits (path_at c j).0 (path_at c j).1 (get_or (pressures c) j 0) near.0 near.1 (pressure_low c h j))
-
--- what the path and the pressure of a sound stroke answer
-pub path_within : (c : Contents) → Sound c → (i : ℕ) (x y : ℤ) → Some (x, y) ≡ slice_get c.path i → (nat_abs x ≤ limit) × (nat_abs y ≤ limit)
-path_within c h i x y e = rw (get_or_nth c.path i (x, y) (pos 0, pos 0) e) at (near_at c h i)
-
-pub pressure_within : (c : Contents) → Sound c → (i u : ℕ) → Some u ≡ slice_get (pressures c) i → u ≤ limit
-pressure_within c h i u e = rw (get_or_nth (pressures c) i u 0 e) at (pressure_low c h i)

@@ -3,10 +3,12 @@
 -- count     a whole number that the pad measured
 -- path      where the pen was at each sample: a pair x, y of counts from -1,023 to 1,023
 -- pressure  a count from 0 to 1,023 at each sample, or none at all
--- field     one count of a sample: 0 is x, 1 is y, 2 is the pressure
+-- field     one count of a sample: x, y or the pressure
 use Rattle.std.specs.Prelude.{◌≡◌, ℕ, zero, suc, ◌+◌, ◌<◌, ◌≤◌, cond, List, [], length, ℤ, pos, IfSome, Some, None, Option, nat_lt, slice_index, slice_index_or, unsigned_abs}
-use Rattle.std.specs.Option.{unwrap_or}
-use Rattle.std.specs.List.{AllByRecursion}
+use Rattle.std.specs.Option.{unwrap_or, option_map}
+use Rattle.std.specs.List.{slice_get, AllByRecursion}
+use Rattle.stroke.specs.declared.fields.Field.{Field}
+use Rattle.stroke.specs.declared.fields.Field.TheVariants.{X, Y, Pressure}
 
 pub record Contents : Type 0 where
   pub path : List (ℤ × ℤ)
@@ -39,27 +41,31 @@ path_at c i = slice_index_or c.path i (pos 0, pos 0)
 abbrev pub pressures : Contents → List ℕ
 pressures c = unwrap_or c.pressure []
 
+-- x, y and the pressure of sample i, if there is such a sample; a pressure that is not there is 0
+abbrev pub sample : Contents → ℕ → Option (ℤ × ℤ × ℕ)
+sample c i = option_map (λ p. (p.0, p.1, slice_index (pressures c) i)) (slice_get c.path i)
+
 -- the first field of a sample that is beyond its limits
-abbrev pub field_beyond : ℤ → ℤ → ℕ → Option ℕ
+abbrev pub field_beyond : ℤ → ℤ → ℕ → Option Field
 field_beyond x y u =
-    cond (nat_lt limit (unsigned_abs x)) (Some 0)
-    (cond (nat_lt limit (unsigned_abs y)) (Some 1)
-    (cond (nat_lt limit u) (Some 2) None))
+    cond (nat_lt limit (unsigned_abs x)) (Some X)
+    (cond (nat_lt limit (unsigned_abs y)) (Some Y)
+    (cond (nat_lt limit u) (Some Pressure) None))
 
 -- the same of sample i, where a pressure that is not there counts as 0
-abbrev pub beyond_at : Contents → ℕ → Option ℕ
+abbrev pub beyond_at : Contents → ℕ → Option Field
 beyond_at c i = field_beyond (path_at c i).0 (path_at c i).1 (slice_index (pressures c) i)
 
 -- the sample i with that field, or what is found after it
-abbrev pub here_or : ℕ → Option ℕ → Option (ℕ × ℕ) → Option (ℕ × ℕ)
+abbrev pub here_or : ℕ → Option Field → Option (ℕ × Field) → Option (ℕ × Field)
 here_or i (Some f) later = Some (i, f)
 here_or i None later = later
 
 -- of n samples from i on, the first field that is beyond its limits: its sample, and which of its fields
-unfoldable pub beyond_from : Contents → ℕ → ℕ → Option (ℕ × ℕ)
+unfoldable pub beyond_from : Contents → ℕ → ℕ → Option (ℕ × Field)
 beyond_from c i zero = None
 beyond_from c i (suc n) = here_or i (beyond_at c i) (beyond_from c (i + 1) n)
 
 -- the same of the whole stroke
-abbrev pub first_beyond : Contents → Option (ℕ × ℕ)
+abbrev pub first_beyond : Contents → Option (ℕ × Field)
 first_beyond c = beyond_from c 0 (length c.path)

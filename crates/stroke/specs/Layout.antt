@@ -2,6 +2,8 @@
 use Rattle.std.specs.Prelude.{ℕ, ◌+◌, ◌*◌, ◌/◌, ◌%◌, Bool, cond, List, [], ◌∷◌, ℤ, slice_index}
 use Rattle.std.proofs.Common.{to_z, of_z}
 use Rattle.std.specs.Int.{w16}
+use Rattle.stroke.specs.declared.fields.Field.{Field}
+use Rattle.stroke.specs.declared.fields.Field.TheVariants.{X, Y, Pressure}
 
 -- the most bytes of a file
 abbrev pub most_bytes : ℕ
@@ -23,9 +25,15 @@ field_size = 2
 abbrev pub sample_size : Bool → ℕ
 sample_size pressed = cond pressed (3 * field_size) (2 * field_size)
 
+-- where a field begins in its sample: first x, then y, then the pressure
+abbrev pub field_offset : Field → ℕ
+field_offset X = 0
+field_offset Y = field_size
+field_offset Pressure = 2 * field_size
+
 -- where field f of sample i stands, counted from the first sample
-abbrev pub field_at : Bool → ℕ → ℕ → ℕ
-field_at pressed i f = i * sample_size pressed + f * field_size
+abbrev pub field_at : Bool → ℕ → Field → ℕ
+field_at pressed i f = i * sample_size pressed + field_offset f
 
 -- a number in two bytes, the low byte first
 abbrev pub two_bytes : ℕ → List ℕ

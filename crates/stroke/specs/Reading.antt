@@ -2,7 +2,9 @@
 use Rattle.std.specs.Prelude.{◌≡◌, ℕ, ◌+◌, ◌-◌, ◌*◌, ◌/◌, ◌<◌, ◌≤◌, Bool, cond, not, ◌||◌, List, map, length, Some, None, Ok, Err, Option, Result, ◌==◌, nat_lt, slice_index}
 use Rattle.std.specs.List.{between, range_with_len}
 use Rattle.stroke.specs.declared.fault.FileFault.{FileFault}
-use Rattle.stroke.specs.declared.fault.FileFault.TheVariants.{Size, Version, Flag, Count, Distance, Start, Field}
+use Rattle.stroke.specs.declared.fault.FileFault.TheVariants.{Size, Version, Flag, Count, Distance, Start, Field as OfField}
+use Rattle.stroke.specs.declared.fields.Field.{Field}
+use Rattle.stroke.specs.declared.fields.Field.TheVariants.{X, Y, Pressure}
 use Rattle.stroke.specs.declared.view.Stroke.{Stroke}
 use Rattle.stroke.specs.Contents.{Contents, most_samples, first_beyond}
 use Rattle.stroke.specs.Layout.{most_bytes, version, trailer_size, sample_size, field_at, word, signed_word}
@@ -14,8 +16,8 @@ samples_of pressed bs = length bs / sample_size pressed
 -- the stroke whose samples' bytes are bs
 abbrev pub stroke_of : Bool → List ℕ → Contents
 stroke_of pressed bs = record {
-  path = map (λ i. (signed_word bs (field_at pressed i 0), signed_word bs (field_at pressed i 1))) (range_with_len 0 (samples_of pressed bs));
-  pressure = cond pressed (Some (map (λ i. word bs (field_at pressed i 2)) (range_with_len 0 (samples_of pressed bs)))) None;
+  path = map (λ i. (signed_word bs (field_at pressed i X), signed_word bs (field_at pressed i Y))) (range_with_len 0 (samples_of pressed bs));
+  pressure = cond pressed (Some (map (λ i. word bs (field_at pressed i Pressure)) (range_with_len 0 (samples_of pressed bs)))) None;
 }
 
 -- what a stroke that borrows its bytes holds
@@ -64,9 +66,9 @@ abbrev pub stroke_in : List ℕ → Contents
 stroke_in bs = stroke_of (pressed_in bs) (samples_in bs)
 
 -- that stroke, or the field of it that is beyond its limits
-abbrev pub unless_beyond : List ℕ → Option (ℕ × ℕ) → Result Contents FileFault
+abbrev pub unless_beyond : List ℕ → Option (ℕ × Field) → Result Contents FileFault
 unless_beyond bs None = Ok (stroke_in bs)
-unless_beyond bs (Some (i, f)) = Err (Field (start_in bs + field_at (pressed_in bs) i f))
+unless_beyond bs (Some (i, f)) = Err (OfField (start_in bs + field_at (pressed_in bs) i f))
 
 -- the first condition that holds decides
 abbrev pub decode : List ℕ → Result Contents FileFault

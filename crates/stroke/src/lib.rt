@@ -7,11 +7,14 @@ ghost use Rattle.stroke.specs.Reading.{contents, decode};
 ghost use Rattle.stroke.specs.Writing.{FileOf};
 
 mod fault;
+mod fields;
+mod search;
 mod view;
 
 pub use fault::FileFault;
-use view::FIELD;
-pub use view::{Stroke, field_beyond, sample_size};
+pub use fields::{Field, field_beyond};
+pub use search::Sampled;
+pub use view::{Stroke, sample_size};
 
 // The most bytes of a file.
 const MOST_BYTES: usize = 65_536;
@@ -26,6 +29,7 @@ pub const TRAILER: usize = 8;
 pub const VERSION: u8 = 1;
 
 // Reads a file from its end. The first test that fails decides, and nothing is trusted before its test.
+#[tactic(auto, using(crate::proofs::Beyond::field_inside))]
 pub fn read(bytes: &[u8]) -> Result<Stroke<'_>, FileFault>
     ensures answer { MatchResult result (λ s. decode bytes.now ≡ Ok (contents s)) (λ e. decode bytes.now ≡ Err e) }
     ensures file { IfOk result (λ s. FileOf (contents s) bytes.now) }
@@ -63,7 +67,7 @@ pub fn read(bytes: &[u8]) -> Result<Stroke<'_>, FileFault>
     let stroke = Stroke { samples, pressed };
     match stroke.first_beyond() {
         Some((i, field)) => {
-            let at = i * size + field * FIELD;
+            let at = i * size + field.offset();
             Err(FileFault::Field(start + at))
         }
         None => Ok(stroke),
