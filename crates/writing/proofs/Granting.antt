@@ -2,11 +2,12 @@
 use Rattle.std.proofs.Common.{◌≡◌, ℕ, ◌<◌, ◌≤◌, true, List, length, IfSome, Some, None, Ok, Option, refl, ap, arith}
 use Rattle.std.specs.List.{AllByRecursion}
 use Rattle.std.proofs.lemmas.Bool.Decides.{nat_tests}
+use Rattle.stroke.specs.declared.fields.Field.{Field}
 use Rattle.stroke.specs.Contents.{Contents, Sound, limit, most_samples, first_beyond}
 use Rattle.writing.specs.Lending.{as_many, sized, unless_found, within_limits}
 use Rattle.stroke.proofs.Soundness.{sound_from, sound_none}
 
-none_found : (o : Option (ℕ × ℕ)) → Ok tt ≡ unless_found o → o ≡ None
+none_found : (o : Option (ℕ × Field)) → Ok tt ≡ unless_found o → o ≡ None
 none_found None e = refl
 none_found (Some at) e = let z : ◌≡◌ {A = ℕ} 0 1 = cc in absurd (omega arith)
 

@@ -4,6 +4,7 @@ use Rattle.std.specs.Option.{option_map}
 use Rattle.writing.specs.declared.lent.Lent.{Lent}
 use Rattle.writing.specs.declared.lent.LentFault.{LentFault}
 use Rattle.writing.specs.declared.lent.LentFault.TheVariants.{Length, Count, Room}
+use Rattle.stroke.specs.declared.fields.Field.{Field}
 use Rattle.stroke.specs.Contents.{Contents, most_samples, first_beyond}
 
 -- the number and the place by which a refusal of a lent stroke is known
@@ -37,7 +38,7 @@ sized c =
     (cond (not (as_many c.pressure (length c.path))) (Err Length) (Ok tt))
 
 -- the sample that was found beyond its limits, if any was
-abbrev pub unless_found : Option (ℕ × ℕ) → Result (Unit {0}) LentFault
+abbrev pub unless_found : Option (ℕ × Field) → Result (Unit {0}) LentFault
 unless_found None = Ok tt
 unless_found (Some (i, f)) = Err (Count i)
 

@@ -1,9 +1,9 @@
 // A stroke in lent lists of counts, and why one is refused.
-ghost use Rattle.std.specs.Prelude.{◌≡◌, ◌<◌, length, is_some, slice_index};
-ghost use Rattle.stroke.specs.Contents.{pressures, beyond_at, first_beyond};
+ghost use Rattle.std.specs.Prelude.{◌≡◌, is_some, slice_index};
+ghost use Rattle.std.specs.Option.{option_map};
 ghost use Rattle.writing.specs.Lending.{lent_number, lent_place, held, sized, within_limits};
 
-use stroke::{MOST_SAMPLES, field_beyond};
+use stroke::{MOST_SAMPLES, Sampled};
 
 // Nothing is taken for granted of the two lists.
 #[derive(Clone, Copy)]
@@ -43,12 +43,6 @@ impl LentFault {
     }
 }
 
-pub(crate) fn at_or_zero(us: &[u16], i: usize) -> u16
-    ensures { result ≡ slice_index us.now i }
-{
-    if i < us.len() { us[i] } else { 0 }
-}
-
 impl Lent<'_> {
     // Refuses no samples or too many, and another number of pressures.
     pub fn sized(&self) -> Result<(), LentFault>
@@ -67,41 +61,14 @@ impl Lent<'_> {
     pub fn has_pressure(&self) -> bool
         ensures { result ≡ is_some (held self.now).pressure }
     {
-        match self.pressure {
-            Some(_) => true,
-            None => false,
-        }
+        self.pressure.is_some()
     }
 
-    // The pressure of sample `i`, or 0 where there is none.
-    fn pressure_or_zero(&self, i: usize) -> u16
-        ensures { result ≡ slice_index (pressures (held self.now)) i }
+    // The pressure of sample `i`, if the stroke has any: 0 where the list has none for it.
+    pub(crate) fn pressure_at(&self, i: usize) -> Option<u16>
+        ensures { result ≡ option_map (λ us. slice_index us i) (held self.now).pressure }
     {
-        match self.pressure {
-            Some(us) => at_or_zero(us, i),
-            None => 0,
-        }
-    }
-
-    // The first field of sample `i` that is beyond its limits.
-    fn beyond_at(&self, i: usize) -> Option<usize>
-        requires { i < length self.now.path.now }
-        ensures { result ≡ beyond_at (held self.now) i }
-    {
-        let (x, y) = self.path[i];
-        field_beyond(x, y, self.pressure_or_zero(i))
-    }
-
-    // The first field of all that is beyond its limits: its sample, and which of its fields.
-    fn first_beyond(&self) -> Option<(usize, usize)>
-        ensures { result ≡ first_beyond (held self.now) }
-    {
-        for i in 0..self.path.len() {
-            if let Some(field) = self.beyond_at(i) {
-                return Some((i, field));
-            }
-        }
-        None
+        self.pressure.map(|us| us.get(i).copied().unwrap_or(0))
     }
 
     // Refuses the first sample that has a count beyond its limits.
@@ -112,5 +79,18 @@ impl Lent<'_> {
             Some((i, _)) => Err(LentFault::Count(i)),
             None => Ok(()),
         }
+    }
+}
+
+impl Sampled for Lent<'_> {
+    ghost holds = { held };
+
+    fn count(&self) -> usize {
+        self.path.len()
+    }
+
+    fn sample(&self, i: usize) -> Option<(i16, i16, u16)> {
+        let (x, y) = *self.path.get(i)?;
+        Some((x, y, self.pressure_at(i).unwrap_or(0)))
     }
 }

@@ -11,7 +11,6 @@ use stroke::{TRAILER, VERSION, sample_size};
 
 mod lent;
 
-use lent::at_or_zero;
 pub use lent::{Lent, LentFault};
 
 // Sample `i` into its part of the file.
@@ -23,9 +22,9 @@ fn write_sample(stroke: &Lent<'_>, i: usize, part: &mut [u8])
     let (x, y) = stroke.path[i];
     let [x0, x1] = x.to_le_bytes();
     let [y0, y1] = y.to_le_bytes();
-    match stroke.pressure {
-        Some(us) => {
-            let [u0, u1] = at_or_zero(us, i).to_le_bytes();
+    match stroke.pressure_at(i) {
+        Some(pressure) => {
+            let [u0, u1] = pressure.to_le_bytes();
             part.copy_from_slice(&[x0, x1, y0, y1, u0, u1]);
         }
         None => part.copy_from_slice(&[x0, x1, y0, y1]),
@@ -33,16 +32,16 @@ fn write_sample(stroke: &Lent<'_>, i: usize, part: &mut [u8])
 }
 
 // The samples, one after the other.
+// By index, since a proof knows nothing of what `out.chunks_exact_mut(size)` leaves in `out`: tried, and `after` stayed open.
+#[tactic(auto, using(crate::proofs::Filling::row_inside))]
 fn write_samples(stroke: &Lent<'_>, size: usize, out: &mut [u8])
     requires size { size ≡ sample_size (is_some (held stroke.now).pressure) }
     requires whole { length out.old ≡ length stroke.now.path.now * size }
     ensures after { out.new ≡ samples_bytes (held stroke.now) }
 {
-    let mut at = 0;
     for i in 0..stroke.path.len() {
-        let end = at + size;
-        write_sample(stroke, i, &mut out[at..end]);
-        at = end;
+        let at = i * size;
+        write_sample(stroke, i, &mut out[at..at + size]);
     }
 }
 
