@@ -1,15 +1,17 @@
 // Why a call is refused, and whose doing it is.
 #![tactic(auto)]
 
-ghost use Rattle.std.specs.Prelude.{◌≡◌};
+ghost use Rattle.std.specs.Prelude.{◌≡◌, Some};
 ghost use Rattle.refusal.specs.declared.Fault.TheVariants.{File as OfFile, Plan as OfPlan, Lent as OfLent};
 ghost use Rattle.refusal.specs.Faults.{number_of, layer_of, place_of, layer_number};
+ghost use Rattle.refusal.specs.Printed.{printed_fault};
 
 use plan::PlanFault;
+use std::fmt;
 use stroke::FileFault;
 use writing::LentFault;
 
-#[derive(Clone, Copy)]
+#[derive(Clone, Copy, Debug, PartialEq, Eq)]
 pub enum Fault {
     File(FileFault),
     Plan(PlanFault),
@@ -31,13 +33,14 @@ pub enum Fault {
 }
 
 // Who can mend a fault: whoever wrote the file, chose the length, or lent the memory and calls on it.
-#[derive(Clone, Copy)]
+#[derive(Clone, Copy, Debug, PartialEq, Eq)]
 pub enum Layer {
-    File,
-    Length,
-    Memory,
+    File = 1,
+    Length = 2,
+    Memory = 3,
 }
 
+// By hand, each with `from_gives`, since clauses name the fault that `?` makes of these.
 impl From<FileFault> for Fault {
     ghost from_gives = { λ f r. r ≡ OfFile f };
 
@@ -114,10 +117,17 @@ impl Layer {
     pub fn number(self) -> u8
         ensures answer { result ≡ layer_number self }
     {
-        match self {
-            Layer::File => 1,
-            Layer::Length => 2,
-            Layer::Memory => 3,
-        }
+        self as u8
+    }
+}
+
+impl fmt::Display for Fault {
+    ghost output = { λ fault. Some (printed_fault fault) };
+
+    fn fmt<W: fmt::Write>(&self, f: &mut fmt::Formatter<W>) -> fmt::Result {
+        let number = self.number();
+        let layer = self.layer().number();
+        let place = self.place();
+        write!(f, "{number} {layer} {place}")
     }
 }
