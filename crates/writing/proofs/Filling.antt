@@ -1,23 +1,19 @@
 -- A buffer that takes lists of one length w, one after the other, from its front.
-use Rattle.std.proofs.Common.{◌≡◌, ℕ, zero, suc, ◌+◌, ◌-◌, ◌*◌, ◌<◌, ◌≤◌, List, ◌++◌, length, take, drop, sym, ap, ◌∙◌, append_assoc, add-zero, mul-le-mul_right, zero-add, zero-mul, add-one, arith}
+use Rattle.std.proofs.Common.{◌≡◌, ℕ, ◌+◌, ◌-◌, ◌*◌, ◌<◌, ◌≤◌, List, [], ◌++◌, length, take, drop, sym, ap, ◌∙◌, append_assoc, mul-le-mul_right, zero-add, zero-mul, arith}
 use borrow.Rule.Slice.PartMut.{put_mid}
 use Rattle.std.specs.List.{range_with_len, flat_map}
-use Rattle.std.proofs.lemmas.List.{append-nil, take_at, drop_at, drop_all, drop-drop}
+use Rattle.std.proofs.lemmas.List.FromFn.{map-range_with_len_more}
+use Rattle.std.proofs.lemmas.List.{append-nil, map-id, flat_map_more, take_at, drop_at, drop_all, drop-drop}
 use Rattle.stroke.proofs.Rows.{length_rows}
 
 pub row_inside : (i n w : ℕ) → i < n → i * w + w ≤ n * w
 row_inside i n w h = omega (arith, mul-le-mul_right w h)
 
 module _ {A : Type 0} (f : ℕ → List A) where
-  rows_push : (n a : ℕ) → flat_map f (range_with_len a (suc n)) ≡ flat_map f (range_with_len a n) ++ f (a + n)
-  rows_push zero a = append-nil (f a) ∙ ap f (sym (add-zero a))
-  rows_push (suc n) a =
-      let next : a + 1 + n ≡ a + suc n = omega arith in
-      ap (λ xs. f a ++ xs) (rows_push n (a + 1)) ∙ sym (append_assoc (f a) (flat_map f (range_with_len (a + 1) n)) (f (a + 1 + n)))
-      ∙ ap (λ k. (f a ++ flat_map f (range_with_len (a + 1) n)) ++ f k) next
-
   rows_more : (n : ℕ) → flat_map f (range_with_len 0 (n + 1)) ≡ flat_map f (range_with_len 0 n) ++ f n
-  rows_more n = ap (λ k. flat_map f (range_with_len 0 k)) (add-one n) ∙ rows_push n 0 ∙ ap (λ k. flat_map f (range_with_len 0 n) ++ f k) (zero-add n)
+  rows_more n =
+      let more = simp map-id at (map-range_with_len_more (λ i. i) 0 n n (zero-add n)) in
+      ap (flat_map f) more ∙ sym (flat_map_more f [] (range_with_len 0 n) n)
 
   -- the first i lists stand in front, and behind them the buffer is as it was
   abbrev pub Filled : ℕ → List A → ℕ → List A → Type 0
