@@ -1,4 +1,4 @@
-use Rattle.std.proofs.Common.{◌≡◌, ◌*◌, length, drop, sym, ap, ◌∙◌}
+use Rattle.std.proofs.Common.{◌≡◌, ◌*◌, length, drop, sym, ap, ◌∙◌, arith}
 use Rattle.stroke.specs.Layout.{sample_size}
 use Rattle.stroke.specs.Writing.{samples_bytes, encode}
 use Rattle.writing.specs.Lending.{held}
@@ -14,7 +14,7 @@ returns-then-out-len c =
     let limits = c.in_ok-within_limits.ensures.answer in
     let out = c.args.out.now in
     let wide = c.sample_size-size.ensures ∙ ap sample_size c.has_pressure-pressed.ensures in
-    let short = written_short s size limits (length out) _ (written_sized s size limits _ wide) c.if-out-len.true in
+    let short = written_short s size limits (length out) _ (written_sized s size limits _ wide) (omega arith) in
     record { answer = short; after = stays s out _ short; back = tt }
 
 pub returns : goal.returns
@@ -26,7 +26,7 @@ returns c =
     let wide = c.sample_size-size.ensures ∙ ap sample_size c.has_pressure-pressed.ensures in
     let len = written_sized s size limits _ wide in
     let far : length s.path * c.sample_size-size.result ≡ length (samples_bytes s) = ap (λ w. length s.path * w) wide ∙ sym (length_samples s) in
-    let whole = written_whole s size limits (length out) _ len c.if-out-len.false in
+    let whole = written_whole s size limits (length out) _ len (omega arith) in
     let file = file_left s c.write_samples.new.out c.copy_from_slice.new.self out _ c.has_pressure-pressed.result
     c.write_samples.ensures.after (c.copy_from_slice.ensures.after ∙ c.trailer.ensures) far c.has_pressure-pressed.ensures in
     record {
