@@ -1,5 +1,5 @@
 -- A list whose elements after the first are turned round is the mirrored list.
-use Rattle.std.proofs.Common.{◌≡◌, ℕ, zero, suc, ◌-◌, ◌%◌, ◌<◌, List, [], ◌∷◌, ◌++◌, reverse, length, get_or, take, drop, sym, ap, ◌∙◌, mod-eq_of_lt, arith}
+use Rattle.std.proofs.Common.{◌≡◌, ℕ, zero, suc, ◌-◌, ◌%◌, ◌<◌, List, [], ◌∷◌, ◌++◌, reverse, length, get_or, take, drop, refl, sym, ap, ◌∙◌, mod-eq_of_lt, arith}
 use native.Mathlib.Nat.{mod_self}
 use borrow.Rule.Slice.PartMut.{put_mid}
 use Rattle.std.proofs.lemmas.List.{append-nil, take_all, drop_all, length-reverse, get_or-reverse}
@@ -23,6 +23,11 @@ module _ {A : Type 0} (d : A) where
   turned_round x t =
       fill_by_all (λ i. get_or (x ∷ t) ((length (x ∷ t) - i) % length (x ∷ t)) d) (x ∷ reverse t) (length (x ∷ t)) d (ap suc (length-reverse t))
       (round_at x t)
+
+  pub mirrored_none : (xs : List A) → length xs < 1 → xs ≡ mirrored d xs
+  unfolding mirrored
+  mirrored_none [] none = refl
+  mirrored_none (x ∷ t) none = absurd (omega arith)
 
   pub mirrored_in_place : (xs ys : List A) → 0 < length xs → ys ≡ reverse (take (length xs - 1) (drop 1 xs)) → put_mid 1 (length xs - 1) xs ys ≡ mirrored d xs
   mirrored_in_place [] ys some is = absurd (omega arith)

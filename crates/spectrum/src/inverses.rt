@@ -22,12 +22,12 @@ pub(crate) fn full<X: Arithmetic>() -> Result<(), Fault>
 }
 
 // Place t takes place (N - t) mod N: the first stays, and the others turn round.
-fn mirror<X: Arithmetic>(buf: &mut [X])
-    requires { 0 < length buf.old }
+pub fn mirror<X: Arithmetic>(buf: &mut [X])
     ensures after { buf.new ≡ mirrored X.Arithmetic.meaning.zero buf.old }
 {
-    let n = buf.len();
-    buf[1..n].reverse();
+    if let [_, others @ ..] = buf {
+        others.reverse();
+    }
 }
 
 // Each of N elements becomes one of N equal parts of itself.

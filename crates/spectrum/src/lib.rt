@@ -1,6 +1,7 @@
 // Spectra over any arithmetic: deal the samples, then one stage for each radix, where they stand.
 #![tactic(auto)]
 
+mod circle;
 mod convolving;
 mod engine;
 mod inverses;
@@ -8,9 +9,10 @@ mod steps;
 mod tested;
 mod transforms;
 
+pub use circle::Angle;
 pub use convolving::convolve;
 pub use engine::clear;
-pub use inverses::inverse;
+pub use inverses::{inverse, mirror};
 pub use steps::{deal, stage};
-pub use tested::{SCRATCH, granted, suits};
+pub use tested::{SCRATCH, divides, granted, suits};
 pub use transforms::transform;

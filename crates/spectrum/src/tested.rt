@@ -13,7 +13,7 @@ use refusal::Fault;
 pub const SCRATCH: usize = 8;
 
 // Refuses a length that does not divide the span, as no span is divided by 0.
-pub(crate) fn divides<X: Arithmetic>(n: usize) -> Result<(), Fault>
+pub fn divides<X: Arithmetic>(n: usize) -> Result<(), Fault>
     ensures answer { result ≡ divided X.Arithmetic.meaning.span n }
 {
     if n > 0 && X::span() as usize % n == 0 {
