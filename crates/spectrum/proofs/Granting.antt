@@ -1,12 +1,12 @@
 -- What a granted stage knows of its arguments.
-use Rattle.std.proofs.Common.{◌≡◌, ℕ, ◌*◌, ◌%◌, ◌^◌, ◌<◌, ◌≤◌, Ok, refl, arith}
+use Rattle.std.proofs.Common.{◌≡◌, ℕ, ◌*◌, ◌%◌, ◌^◌, ◌<◌, ◌≤◌, Ok, arith}
 use native.Mathlib.Nat.{le_of_dvd, dvd_of_mod-eq-zero}
 use Rattle.std.proofs.lemmas.Bool.Decides.{nat_tests}
 use Rattle.arithmetic.specs.Laws.{Divides}
 use Rattle.arithmetic.proofs.Divisors.{divisor_above_zero}
 use Rattle.plan.specs.Radices.{least_radix, largest_radix}
 use Rattle.plan.proofs.Sizes.{right_positive}
-use Rattle.spectrum.specs.Shapes.{shaped, Sound}
+use Rattle.spectrum.specs.Shapes.{Sound}
 use Rattle.spectrum.specs.Granted.{scratch, stage_suited}
 
 -- blocks and lent memory that suit a stage
@@ -30,7 +30,7 @@ module _ (span r len buf work : ℕ) where
         room = grind (arith, nat_tests);
       }
 
-  pub suited_sound : 0 < span → span < 2 ^ 32 → StageSuited span r len buf work → Sound span (shaped span r len)
+  pub suited_sound : 0 < span → span < 2 ^ 32 → StageSuited span r len buf work → Sound span r len
   suited_sound circle fits suits =
       let some = divisor_above_zero (r * len) span circle suits.divides in
       record {
@@ -40,5 +40,4 @@ module _ (span r len buf work : ℕ) where
         parts = right_positive r len some;
         size = omega (arith, le_of_dvd circle (dvd_of_mod-eq-zero (r * len) suits.divides));
         divides = suits.divides;
-        unit = refl;
       }

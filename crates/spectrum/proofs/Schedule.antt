@@ -1,12 +1,12 @@
 -- The stages of a plan, taken from its last radix on.
-use Rattle.std.proofs.Common.{◌≡◌, ℕ, ◌+◌, ◌-◌, ◌*◌, ◌%◌, ◌^◌, ◌<◌, ◌≤◌, List, ◌∷◌, length, get_or, drop, sym, refl, ap, ◌∙◌, mul_comm, mul-le-mul_left, mul-zero, mul-add, arith}
-use Rattle.std.proofs.lemmas.List.{at_drop_more, drop_all}
+use Rattle.std.proofs.Common.{◌≡◌, ℕ, ◌+◌, ◌-◌, ◌*◌, ◌%◌, ◌^◌, ◌<◌, ◌≤◌, List, [], ◌∷◌, length, get_or, drop, reverse, sym, ap, ◌∙◌, mul_comm, mul-le-mul_left, mul-add, arith}
+use Rattle.std.proofs.lemmas.List.{at_drop_more, drop_all, get_or_default, get_or-reverse, length-reverse}
 use Rattle.arithmetic.specs.Meaning.{Meaning}
 use Rattle.arithmetic.proofs.Divisors.{divides_trans}
 use Rattle.plan.specs.Radices.{size, radix_sum, turns, largest_size, Plan}
 use Rattle.plan.proofs.Sizes.{plan_drop, plan_size_positive, size_drop_divides, radix_sum_drop_le, turns_le}
 use Rattle.spectra.specs.Stages.{staged, stages}
-use Rattle.spectrum.specs.Shapes.{shaped, Sound}
+use Rattle.spectrum.specs.Shapes.{Sound}
 use Rattle.spectra.proofs.Recursion.{stages_end, stages_more}
 
 -- a function of what is left of a list, one step back
@@ -26,20 +26,6 @@ module _ {rs : List ℕ} (p : Plan rs) (k len : ℕ) (low : 0 < k) (h : k ≤ le
   pub block_small : get_or rs (k - 1) 0 * len ≤ largest_size
   block_small = omega (arith, block_size, (plan_drop rs (k - 1) p).small)
 
-  pub stage_sound : (span : ℕ) → 0 < span → span % size rs ≡ 0 → Sound span (shaped span (get_or rs (k - 1) 0) len)
-  stage_sound span circle divides =
-      let radix = p.each (k - 1) (omega arith) in
-      let small = block_small in
-      record {
-        circle = circle;
-        some = omega arith;
-        few = omega arith;
-        parts = omega (arith, parts, plan_size_positive (drop k rs) (plan_drop rs k p));
-        size = omega arith;
-        divides = divides_trans (get_or rs (k - 1) 0 * len) (size rs) span block_divides divides;
-        unit = refl;
-      }
-
 -- the turns of n elements under the radices from k on, and one radix more
 pub turned_more : (rs : List ℕ) (k n made : ℕ) → 0 < k → k ≤ length rs → made ≡ n * radix_sum (drop k rs) → made + n * get_or rs (k - 1) 0 ≡ n * radix_sum (drop (k - 1) rs)
 turned_more rs k n made low h turned =
@@ -53,39 +39,68 @@ turned_fits {rs} p k n whole =
     let all : n * radix_sum rs ≡ turns rs = ap (λ x. x * radix_sum rs) whole in
     omega (arith, turns_le rs p)
 
--- the stages of the radices from k on are done
-pub record From {A R : Type 0} (m : Meaning A R) (rs : List ℕ) (k len made : ℕ) (before after : List A) : Type 0 where
-  pub parts : len ≡ size (drop k rs)
-  pub so_far : after ≡ stages m (drop k rs) before
-  pub turned : made ≡ length before * radix_sum (drop k rs)
+-- the stages of the last n radices are done
+pub record Done {A R : Type 0} (m : Meaning A R) (rs : List ℕ) (n len : ℕ) (before after : List A) : Type 0 where
+  pub parts : len ≡ size (drop (length rs - n) rs)
+  pub so_far : after ≡ stages m (drop (length rs - n) rs) before
 
-module _ {A R : Type 0} (m : Meaning A R) where
-  pub from_end : (rs : List ℕ) (before : List A) → From m rs (length rs) 1 0 before before
-  from_end rs before =
-      let none = sym (drop_all (length rs) rs (omega arith)) in
-      record {
-        parts = ap size none;
-        so_far = stages_end m before ∙ ap (λ x. stages m x before) none;
-        turned = sym (mul-zero (length before)) ∙ ap (λ x. length before * radix_sum x) none;
-      }
+-- the radix r comes next
+pub record Next (rs : List ℕ) (n r : ℕ) : Type 0 where
+  pub left : n < length rs
+  pub is : r ≡ get_or rs (length rs - n - 1) 0
 
-  -- one stage more, which makes t turns
-  module _ {rs : List ℕ} (p : Plan rs) {k len made : ℕ} {before after : List A} (done : From m rs k len made before after) (low : 0 < k) (h : k ≤ length rs) (kept : length after ≡ length before) (t : ℕ) (turned : t ≡ length after * get_or rs (k - 1) 0) where
-    turns_more : made + t ≡ length before * radix_sum (drop (k - 1) rs)
-    turns_more =
-        let n = length before in
-        let here : t ≡ n * get_or rs (k - 1) 0 = turned ∙ ap (λ x. x * get_or rs (k - 1) 0) kept in
-        ap (λ x. made + x) here ∙ turned_more rs k n made low h done.turned
+pub next_from_end : (rs : List ℕ) (n r : ℕ) → (n < length (reverse rs)) × (r ≡ get_or (reverse rs) n r) → Next rs n r
+next_from_end rs n r t =
+    let low : n < length rs = omega (arith, t.0, length-reverse rs) in
+    let at : length rs - 1 - n ≡ length rs - n - 1 = omega arith in
+    record {
+      left = low;
+      is = t.1 ∙ get_or-reverse rs n r low ∙ get_or_default rs (length rs - 1 - n) r 0 (omega arith) ∙ ap (λ i. get_or rs i 0) at;
+    }
 
-    pub turns_fit : length before ≡ size rs → made + t < 2 ^ 64
-    turns_fit whole = omega (arith, turns_more, turned_fits p (k - 1) (length before) whole)
+module _ {A R : Type 0} (m : Meaning A R) {rs : List ℕ} where
+  pub none_done : (before : List A) → Done m rs 0 1 before before
+  none_done before =
+      let none : [] ≡ drop (length rs - 0) rs = sym (drop_all (length rs - 0) rs (omega arith)) in
+      record { parts = ap size none; so_far = stages_end m before ∙ ap (λ x. stages m x before) none }
 
-    pub from_more : (next : List A) → next ≡ staged m (get_or rs (k - 1) 0) len after → From m rs (k - 1) (len * get_or rs (k - 1) 0) (made + t) before next
-    from_more next is =
-        let r = get_or rs (k - 1) 0 in
+  module _ (p : Plan rs) {n r len : ℕ} {before after : List A} (done : Done m rs n len before after) (next : Next rs n r) where
+    low : 0 < length rs - n
+    low = let left = next.left in omega arith
+
+    within : length rs - n ≤ length rs
+    within = omega arith
+
+    pub next_sound : 0 < m.span → m.span % size rs ≡ 0 → Sound m.span r len
+    next_sound circle divides =
+        let k = length rs - n in
+        let radix = p.each (k - 1) (omega (arith, low)) in
+        let small = block_small p k len low within done.parts in
+        let is = next.is in
+        rw is (record {
+          circle = circle;
+          some = omega arith;
+          few = omega arith;
+          parts = omega (arith, done.parts, plan_size_positive (drop k rs) (plan_drop rs k p));
+          size = omega arith;
+          divides = divides_trans (get_or rs (k - 1) 0 * len) (size rs) m.span (block_divides p k len low within done.parts) divides;
+        })
+
+    pub next_whole : size rs % (r * len) ≡ 0
+    next_whole = let is = next.is in rw is (block_divides p (length rs - n) len low within done.parts)
+
+    pub next_done : (count : ℕ) → count ≡ n + 1 → (ys : List A) → ys ≡ staged m r len after → Done m rs count (len * r) before ys
+    next_done count more ys made =
+        let k = length rs - n in
+        let left = next.left in
+        let back : k - 1 ≡ length rs - count = omega arith in
+        let x = get_or rs (k - 1) 0 in
+        let rest = drop k rs in
+        let parts : len * r ≡ size (drop (k - 1) rs) = ap (λ y. len * y) next.is ∙ mul_comm len x ∙ block_size p k len low within done.parts in
+        let so_far : ys ≡ stages m (drop (k - 1) rs) before =
+        made ∙ ap (λ y. staged m y len after) next.is ∙ ap (λ y. staged m x y after) done.parts ∙ ap (staged m x (size rest)) done.so_far
+        ∙ stages_more m x rest before ∙ at_drop_back (λ y. stages m y before) rs k 0 low within in
         record {
-          parts = mul_comm len r ∙ block_size p k len low h done.parts;
-          so_far = is ∙ ap (λ x. staged m r x after) done.parts ∙ ap (staged m r (size (drop k rs))) done.so_far
-              ∙ stages_more m r (drop k rs) before ∙ at_drop_back (λ x. stages m x before) rs k 0 low h;
-          turned = turns_more;
+          parts = parts ∙ ap (λ i. size (drop i rs)) back;
+          so_far = so_far ∙ ap (λ i. stages m (drop i rs) before) back;
         }

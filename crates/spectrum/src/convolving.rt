@@ -7,11 +7,10 @@ ghost use Rattle.spectra.specs.Tones.{tones as tones_of};
 ghost use Rattle.spectra.specs.Spectra.{spectrum, spectra_product, convolution};
 ghost use Rattle.spectrum.specs.Granted.{whole as whole_for, convolved};
 
-use crate::engine::{scatter, stages};
-use crate::inverses::{full, restore};
-use crate::tested::{divides, lent};
+use crate::inverses::full;
+use crate::suited::Suited;
+use crate::tested::lent;
 use arithmetic::Arithmetic;
-use plan::Plan;
 use refusal::Fault;
 
 // Refuses a list that is not of the length.
@@ -21,47 +20,47 @@ fn whole(n: usize, len: usize) -> Result<(), Fault>
     if len == n { Ok(()) } else { Err(Fault::Length) }
 }
 
-// The tones of samples that stay where they are, into `out`.
-fn tones_into<X: Arithmetic>(plan: &Plan, samples: &[X], out: &mut [X], scratch: &mut [X])
-    requires divides { X.Arithmetic.meaning.span % size (radices_of plan.now) ≡ 0 }
-    requires samples { length samples.now ≡ size (radices_of plan.now) }
-    requires out { length out.old ≡ size (radices_of plan.now) }
-    requires scratch { largest_radix ≤ length scratch.old }
-    ensures after { out.new ≡ tones_of X.Arithmetic.meaning (radices_of plan.now) samples.now }
-{
-    scatter(plan, samples, out);
-    stages(plan, out, scratch);
-}
-
 // The product of two spectra, tone by tone, where the first stands.
 fn multiply<X: Arithmetic>(tones: &mut [X], others: &[X])
     requires { length others.now ≡ length tones.old }
     ensures after { tones.new ≡ spectra_product X.Arithmetic.meaning tones.old others.now }
 {
-    for k in 0..tones.len() {
-        tones[k] = tones[k].product(others[k]);
+    for (k, other) in others.iter().enumerate() {
+        tones[k] = tones[k].product(*other);
     }
 }
 
-// The inverse of the product of both lists' tones, in `out`, and then zeros in `work`.
-// The tones of `b` wait at the front of `work` while those of `a` are made.
-fn convolve_by<X: Arithmetic>(plan: &Plan, a: &[X], b: &[X], out: &mut [X], work: &mut [X])
-    requires full { X.Arithmetic.meaning.full ≡ true }
-    requires divides { X.Arithmetic.meaning.span % size (radices_of plan.now) ≡ 0 }
-    requires first { length a.now ≡ size (radices_of plan.now) }
-    requires second { length b.now ≡ size (radices_of plan.now) }
-    requires out { length out.old ≡ size (radices_of plan.now) }
-    requires room { length out.old + largest_radix ≤ length work.old }
-    ensures after { out.new ≡ convolution X.Arithmetic.meaning a.now b.now }
-    ensures spectra { spectrum X.Arithmetic.meaning out.new ≡ spectra_product X.Arithmetic.meaning (spectrum X.Arithmetic.meaning a.now) (spectrum X.Arithmetic.meaning b.now) }
-    ensures work { work.new ≡ replicate (length work.old) X.Arithmetic.meaning.zero }
-{
-    let n = plan.len();
-    tones_into(plan, b, out, work);
-    work[0..n].copy_from_slice(out);
-    tones_into(plan, a, out, &mut work[n..]);
-    multiply(out, &work[0..n]);
-    restore(plan, out, work);
+impl<X: Arithmetic> Suited<X> {
+    // The tones of samples that stay where they are, into `out`.
+    fn tones_into(&self, samples: &[X], out: &mut [X], scratch: &mut [X])
+        requires samples { length samples.now ≡ size (radices_of self.now.plan) }
+        requires out { length out.old ≡ size (radices_of self.now.plan) }
+        requires scratch { largest_radix ≤ length scratch.old }
+        ensures after { out.new ≡ tones_of X.Arithmetic.meaning (radices_of self.now.plan) samples.now }
+    {
+        self.scatter(samples, out);
+        self.stages(out, scratch);
+    }
+
+    // The inverse of the product of both lists' tones, in `out`, and then zeros in `work`.
+    // The tones of `b` wait at the front of `work` while those of `a` are made.
+    fn convolve_by(&self, a: &[X], b: &[X], out: &mut [X], work: &mut [X])
+        requires full { X.Arithmetic.meaning.full ≡ true }
+        requires first { length a.now ≡ size (radices_of self.now.plan) }
+        requires second { length b.now ≡ size (radices_of self.now.plan) }
+        requires out { length out.old ≡ size (radices_of self.now.plan) }
+        requires room { length out.old + largest_radix ≤ length work.old }
+        ensures after { out.new ≡ convolution X.Arithmetic.meaning a.now b.now }
+        ensures spectra { spectrum X.Arithmetic.meaning out.new ≡ spectra_product X.Arithmetic.meaning (spectrum X.Arithmetic.meaning a.now) (spectrum X.Arithmetic.meaning b.now) }
+        ensures work { work.new ≡ replicate (length work.old) X.Arithmetic.meaning.zero }
+    {
+        let n = self.plan.len();
+        self.tones_into(b, out, work);
+        work[0..n].copy_from_slice(out);
+        self.tones_into(a, out, &mut work[n..]);
+        multiply(out, &work[0..n]);
+        self.restore(out, work);
+    }
 }
 
 // The plan of these radices, where the arithmetic can convolve and the lists and the lent memory suit.
@@ -71,17 +70,16 @@ fn convolvable<X: Arithmetic>(
     b: usize,
     out: usize,
     work: usize,
-) -> Result<Plan, Fault>
-    ensures answer { result_map_both radices_of (λ f. f) result ≡ result_and (convolved X.Arithmetic.meaning radices.now a b out work) (Ok radices.now) }
+) -> Result<Suited<X>, Fault>
+    ensures answer { result_map_both (λ suited. radices_of suited.plan) (λ f. f) result ≡ result_and (convolved X.Arithmetic.meaning radices.now a b out work) (Ok radices.now) }
 {
-    let plan = Plan::new(radices)?;
-    let n = plan.len();
-    divides::<X>(n)?;
+    let suited = Suited::new(radices)?;
+    let n = suited.plan.len();
     full::<X>()?;
     whole(n, a)?;
     whole(n, b)?;
     lent(n, out, work)?;
-    Ok(plan)
+    Ok(suited)
 }
 
 // The cyclic convolution of `a` and `b` in `out`: its spectrum is the product of theirs.
@@ -98,7 +96,7 @@ pub fn convolve<X: Arithmetic>(
     ensures spectra { OnOk result (spectrum X.Arithmetic.meaning out.new ≡ spectra_product X.Arithmetic.meaning (spectrum X.Arithmetic.meaning a.now) (spectrum X.Arithmetic.meaning b.now)) }
     ensures work { work.new ≡ (if is_ok result then replicate (length work.old) X.Arithmetic.meaning.zero else work.old) }
 {
-    let plan = convolvable::<X>(radices, a.len(), b.len(), out.len(), work.len())?;
-    convolve_by(&plan, a, b, out, work);
+    let suited = convolvable::<X>(radices, a.len(), b.len(), out.len(), work.len())?;
+    suited.convolve_by(a, b, out, work);
     Ok(())
 }

@@ -8,10 +8,10 @@ ghost use Rattle.spectra.specs.SpectraLaws.{TonesOf};
 ghost use Rattle.spectra.specs.Moves.{mirrored};
 ghost use Rattle.spectrum.specs.Granted.{filled, inverted};
 
-use crate::engine::{clear, deal, stages};
-use crate::tested::{divides, lent};
+use crate::engine::clear;
+use crate::suited::Suited;
+use crate::tested::lent;
 use arithmetic::Arithmetic;
-use plan::Plan;
 use refusal::Fault;
 
 // Refuses an arithmetic that has no product and no part.
@@ -41,33 +41,32 @@ fn part_each<X: Arithmetic>(buf: &mut [X])
     }
 }
 
-// The inverse of the tones in `buf`, in their place, and then zeros in `work`.
-pub(crate) fn restore<X: Arithmetic>(plan: &Plan, buf: &mut [X], work: &mut [X])
-    requires full { X.Arithmetic.meaning.full ≡ true }
-    requires divides { X.Arithmetic.meaning.span % size (radices_of plan.now) ≡ 0 }
-    requires whole { length buf.old ≡ size (radices_of plan.now) }
-    requires room { length buf.old + largest_radix ≤ length work.old }
-    ensures after { buf.new ≡ inverse_of X.Arithmetic.meaning buf.old }
-    ensures restores { (a : List X) → TonesOf X.Arithmetic.meaning a buf.old → buf.new ≡ map X.Arithmetic.meaning.value a }
-    ensures work { work.new ≡ replicate (length work.old) X.Arithmetic.meaning.zero }
-{
-    deal(plan, buf, work);
-    stages(plan, buf, work);
-    mirror(buf);
-    part_each(buf);
-    clear(work);
+impl<X: Arithmetic> Suited<X> {
+    // The inverse of the tones in `buf`, in their place, and then zeros in `work`.
+    pub(crate) fn restore(&self, buf: &mut [X], work: &mut [X])
+        requires full { X.Arithmetic.meaning.full ≡ true }
+        requires whole { length buf.old ≡ size (radices_of self.now.plan) }
+        requires room { length buf.old + largest_radix ≤ length work.old }
+        ensures after { buf.new ≡ inverse_of X.Arithmetic.meaning buf.old }
+        ensures restores { (a : List X) → TonesOf X.Arithmetic.meaning a buf.old → buf.new ≡ map X.Arithmetic.meaning.value a }
+        ensures work { work.new ≡ replicate (length work.old) X.Arithmetic.meaning.zero }
+    {
+        self.deal(buf, work);
+        self.stages(buf, work);
+        mirror(buf);
+        part_each(buf);
+        clear(work);
+    }
 }
 
 // The plan of these radices, where the arithmetic can invert and the lent memory suits.
-fn invertible<X: Arithmetic>(radices: &[u8], buf: usize, work: usize) -> Result<Plan, Fault>
-    ensures answer { result_map_both radices_of (λ f. f) result ≡ result_and (inverted X.Arithmetic.meaning radices.now buf work) (Ok radices.now) }
+fn invertible<X: Arithmetic>(radices: &[u8], buf: usize, work: usize) -> Result<Suited<X>, Fault>
+    ensures answer { result_map_both (λ suited. radices_of suited.plan) (λ f. f) result ≡ result_and (inverted X.Arithmetic.meaning radices.now buf work) (Ok radices.now) }
 {
-    let plan = Plan::new(radices)?;
-    let n = plan.len();
-    divides::<X>(n)?;
+    let suited = Suited::new(radices)?;
     full::<X>()?;
-    lent(n, buf, work)?;
-    Ok(plan)
+    lent(suited.plan.len(), buf, work)?;
+    Ok(suited)
 }
 
 // The samples of the tones in `buf`, in their place: those whose defining sums the tones are.
@@ -78,7 +77,7 @@ pub fn inverse<X: Arithmetic>(radices: &[u8], buf: &mut [X], work: &mut [X]) -> 
     ensures restores { OnOk result ((a : List X) → TonesOf X.Arithmetic.meaning a buf.old → buf.new ≡ map X.Arithmetic.meaning.value a) }
     ensures work { work.new ≡ (if is_ok result then replicate (length work.old) X.Arithmetic.meaning.zero else work.old) }
 {
-    let plan = invertible::<X>(radices, buf.len(), work.len())?;
-    restore(&plan, buf, work);
+    let suited = invertible::<X>(radices, buf.len(), work.len())?;
+    suited.restore(buf, work);
     Ok(())
 }

@@ -5,7 +5,9 @@ mod circle;
 mod convolving;
 mod engine;
 mod inverses;
+mod shape;
 mod steps;
+mod suited;
 mod tested;
 mod transforms;
 

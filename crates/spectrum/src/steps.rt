@@ -6,7 +6,8 @@ ghost use Rattle.plan.specs.Planned.{radices_of};
 ghost use Rattle.spectra.specs.Stages.{staged};
 ghost use Rattle.spectrum.specs.Granted.{suited, stage_suited, stage_turned};
 
-use crate::engine;
+use crate::engine::clear;
+use crate::shape::Shape;
 use crate::tested::{SCRATCH, divides, suiting};
 use arithmetic::Arithmetic;
 use plan::Plan;
@@ -19,10 +20,10 @@ pub fn deal<X: Arithmetic>(radices: &[u8], buf: &mut [X], work: &mut [X]) -> Res
     ensures after { buf.new ≡ (if is_ok result then dealt X.Arithmetic.meaning.zero radices.now buf.old else buf.old) }
     ensures work { work.new ≡ (if is_ok result then replicate (length work.old) X.Arithmetic.meaning.zero else work.old) }
 {
-    let plan = suiting::<X>(radices, buf.len(), work.len())?;
-    engine::deal(&plan, buf, work);
-    engine::clear(work);
-    Ok(plan)
+    let suited = suiting::<X>(radices, buf.len(), work.len())?;
+    suited.deal(buf, work);
+    clear(work);
+    Ok(suited.plan)
 }
 
 // Refuses a radix that no plan has, blocks whose size does not divide the span, and lent memory that does not suit them.
@@ -55,7 +56,7 @@ pub fn stage<X: Arithmetic>(
     ensures work { work.new ≡ (if is_ok result then replicate (length work.old) X.Arithmetic.meaning.zero else work.old) }
 {
     stage_suits::<X>(radix, len, buf.len(), work.len())?;
-    let turns = engine::stage(buf, radix as usize, len as usize, work);
-    engine::clear(work);
-    Ok(turns)
+    Shape::new(radix as usize, len as usize).stage(buf, work);
+    clear(work);
+    Ok(buf.len() * radix as usize)
 }

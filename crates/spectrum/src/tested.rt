@@ -5,6 +5,7 @@ ghost use Rattle.plan.specs.Planned.{radices_of};
 ghost use Rattle.plan.specs.Radices.{size};
 ghost use Rattle.spectrum.specs.Granted.{divided, lent as lent_for, suited};
 
+use crate::suited::Suited;
 use arithmetic::Arithmetic;
 use plan::Plan;
 use refusal::Fault;
@@ -53,10 +54,14 @@ pub fn granted<X: Arithmetic>(plan: &Plan, buf: usize, work: usize) -> Result<()
 }
 
 // The plan of these radices, where the span and the lent memory suit its length.
-pub(crate) fn suiting<X: Arithmetic>(radices: &[u8], buf: usize, work: usize) -> Result<Plan, Fault>
-    ensures answer { result_map_both radices_of (λ f. f) result ≡ suited X.Arithmetic.meaning.span radices.now buf work radices.now }
+pub(crate) fn suiting<X: Arithmetic>(
+    radices: &[u8],
+    buf: usize,
+    work: usize,
+) -> Result<Suited<X>, Fault>
+    ensures answer { result_map_both (λ suited. radices_of suited.plan) (λ f. f) result ≡ suited X.Arithmetic.meaning.span radices.now buf work radices.now }
 {
-    let plan = Plan::new(radices)?;
-    granted::<X>(&plan, buf, work)?;
-    Ok(plan)
+    let suited = Suited::new(radices)?;
+    lent(suited.plan.len(), buf, work)?;
+    Ok(suited)
 }
