@@ -20,17 +20,6 @@ pub blocks_end : (b from n size : ℕ) → b ≡ size / n → from ≡ b * n →
 blocks_end b from n size end at z =
     at ∙ ap (λ x. x * n) end ∙ mul_comm (size / n) n ∙ sym (quotient_whole size n z)
 
-pub block_turns_fit : (j len r : ℕ) → j < len → r ≤ 8 → r * len < 2 ^ 32 → j * (r * r) + r * r < 2 ^ 64
-block_turns_fit j len r h few size =
-    let up : suc j * (r * r) ≤ len * (r * r) = mul-le-mul_right (r * r) h in
-    let eight : (r * len) * r ≤ (r * len) * 8 = mul-le-mul_left (r * len) few in
-    omega arith
-
-pub stage_turns_fit : (from n r size : ℕ) → from + n ≤ size → size < 2 ^ 32 → r ≤ 8 → from * r + n * r < 2 ^ 64
-stage_turns_fit from n r size within low few =
-    let eight : (from + n) * r ≤ (from + n) * 8 = mul-le-mul_left (from + n) few in
-    omega arith
-
 module _ {A : Type 0} (f : List A → List A) (n c : ℕ) where
   step : (left from : ℕ) (ys ws : List A) → from + n ≤ length ys → ws ≡ f (take n (drop from ys)) → length ws ≡ n → take (from + n) (put_mid from n ys ws) ++ blocks f n left (drop (from + n) (put_mid from n ys ws)) ≡ take from ys ++ blocks f n (suc left) (drop from ys)
   unfolding blocks

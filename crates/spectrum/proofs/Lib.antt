@@ -2,3 +2,4 @@ pub mod Sums
 pub mod Columns
 pub mod Schedule
 pub mod Granting
+pub mod Toned

@@ -43,6 +43,9 @@ impl<X: Arithmetic> Shape<X> {
         q * self.len + j
     }
 
+    // How long the lent slices are stays in `requires`, here and below: a struct that holds two of them gets a proof,
+    // but what they hold at its end is lost to the proof of the caller.
+
     // Tone `i * len + j` of the block.
     fn output(&self, block: &[X], i: usize, j: usize) -> X
         requires cell { (i < self.now.radix) × (j < self.now.len) }
@@ -51,6 +54,7 @@ impl<X: Arithmetic> Shape<X> {
     {
         let mut angle = Angle::by::<X>(self.place(i, j) * self.unit);
         let mut sum = block[j].turn(0);
+        // By number: part `q` turns as it stands, at a place that its number says, and steps of an iterator would say neither.
         for q in 1..self.radix {
             angle = angle.onward();
             sum = sum.sum(block[self.place(q, j)].turn(angle.place()));
@@ -65,6 +69,7 @@ impl<X: Arithmetic> Shape<X> {
         requires scratch { self.now.radix ≤ length scratch.old }
         ensures after { Column X.Arithmetic.meaning self.now.radix self.now.len j self.now.radix block.old block.new }
     {
+        // By number: after `iter_mut().enumerate()` a proof knows nothing of what was written.
         for i in 0..self.radix {
             scratch[i] = self.output(block, i, j);
         }
@@ -91,6 +96,7 @@ impl<X: Arithmetic> Shape<X> {
         ensures after { buf.new ≡ staged X.Arithmetic.meaning self.now.radix self.now.len buf.old }
     {
         let size = self.radix * self.len;
+        // By number: after `chunks_exact_mut` a proof knows nothing of what was written.
         for b in 0..buf.len() / size {
             self.combine(&mut buf[b * size..(b + 1) * size], scratch);
         }
@@ -143,7 +149,7 @@ impl<X: Arithmetic> Suited<X> {
 pub fn clear<X: Arithmetic>(work: &mut [X])
     ensures after { work.new ≡ replicate (length work.old) X.Arithmetic.meaning.zero }
 {
-    // A loop: `fill` asks for a clone that cannot fail, which no bound of an arithmetic says, so its call is not proved.
+    // A loop: `fill` asks for a clone that cannot fail, which an arithmetic does not say, so its call gets no proof.
     for x in work.iter_mut() {
         *x = X::zero();
     }

@@ -7,9 +7,6 @@ overflow_add-at c =
     let less = div-le_self c.loop-r.block (get_or c.args.radices.now c.loop-r.r-index 0) in
     omega (arith, block_le c.requires.each c.loop-r.invariant)
 
-pub overflow_add-result : goal.overflow_add-result
-overflow_add-result c = omega (arith, block_le c.requires.each c.loop-r.invariant)
-
 pub returns-then-at-part : goal.returns-then-at-part
 returns-then-at-part c = record {
   answer = λ i is. counts_up c.requires.each c.loop-r.invariant c.loop-r-test.true c.if-at-part.true ∙ ap (next c.args.radices.now) is ∙ next_place _ c.requires.each i;

@@ -1,6 +1,5 @@
 use Rattle.std.proofs.Common.{◌+◌, sym, ap, ◌∙◌, arith}
 use Rattle.std.proofs.lemmas.List.{get_or_read}
-use Rattle.plan.specs.Radices.{size}
 use Rattle.plan.specs.Dealing.{place}
 use Rattle.plan.specs.Planned.{radices_of}
 use Rattle.plan.proofs.Sizes.{size_positive}
@@ -12,13 +11,6 @@ pub loop-x-init : goal.loop-x-init
 loop-x-init g c =
     let rs = radices_of c.args.self.now.plan in
     (sym (place_zero rs), omega (arith, size_positive rs c.args.self.now.plan.each), λ k h. absurd (omega arith))
-
-pub next_place-at-requires : goal.next_place-at-requires
-next_place-at-requires g c = record {
-  each = c.radices-radices.ensures.plan.each;
-  whole = c.len-n.ensures.answer ∙ ap size (sym c.radices-radices.ensures.answer);
-  within = (c.loop-x.invariant.1, omega (arith, c.args.self.now.plan.small));
-}
 
 pub loop-x-preserved : goal.loop-x-preserved
 loop-x-preserved g c =
