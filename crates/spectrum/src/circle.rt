@@ -26,6 +26,21 @@ impl Angle {
         Angle { at: 0, step, span }
     }
 
+    // One step on from the first place. That the step is less is asked, and not tested as in `by`: a test here makes
+    // a transform a twelfth slower.
+    pub(crate) fn stepped<X: Arithmetic>(step: usize) -> Angle
+        requires { step < X.Arithmetic.meaning.span }
+        ensures at { result.at ≡ step }
+        ensures step { result.step ≡ step }
+        ensures span { result.span ≡ X.Arithmetic.meaning.span }
+    {
+        Angle {
+            at: step,
+            step,
+            span: X::span() as usize,
+        }
+    }
+
     // How many places past the first.
     pub fn place(self) -> u32
         ensures { result ≡ self.at }

@@ -52,12 +52,12 @@ impl<X: Arithmetic> Shape<X> {
         requires whole { length block.now ≡ self.now.radix * self.now.len }
         ensures { result ≡ tone X.Arithmetic.meaning self.now.radix self.now.len block.now (i * self.now.len + j) }
     {
-        let mut angle = Angle::by::<X>(self.place(i, j) * self.unit);
+        let mut angle = Angle::stepped::<X>(self.place(i, j) * self.unit);
         let mut sum = block[j].turn(0);
         // By number: part `q` turns as it stands, at a place that its number says, and steps of an iterator would say neither.
         for q in 1..self.radix {
-            angle = angle.onward();
             sum = sum.sum(block[self.place(q, j)].turn(angle.place()));
+            angle = angle.onward();
         }
         sum
     }

@@ -1,13 +1,18 @@
 use Rattle.std.proofs.Common.{◌≡◌, ◌<◌, length, ap, ◌∙◌, arith}
 use Rattle.std.proofs.lemmas.List.{get_or_read}
-use Rattle.spectrum.proofs.Sums.{summed_one, summed_more, summed_all}
+use Rattle.spectrum.proofs.Sums.{step_within, summed_one, summed_more, summed_all}
 use Rattle.spectrum.proofs.shape.Shape.output.Goals as goal
+
+pub stepped-angle-requires : goal.stepped-angle-requires
+stepped-angle-requires g c =
+    let s = c.args.self.now in
+    step_within g.X.Arithmetic.meaning s.sound c.requires.cell.0 c.requires.cell.1 c.place.result s.unit c.place.ensures.answer s.circle
 
 pub loop-q-init : goal.loop-q-init
 loop-q-init g c =
     let m = g.X.Arithmetic.meaning in
     let s = c.args.self.now in
-    let first = c.by-angle.ensures in
+    let first = c.stepped-angle.ensures in
     let room : c.args.j < length c.args.block.now = omega arith in
     let read = get_or_read _ c.args.j c.index-block-j.result room c.index-block-j.is m.zero in
     summed_one m s.sound c.requires.cell.0 c.requires.cell.1 _ s.unit _ _ _ _ _ c.place.ensures.answer s.circle first.at first.step first.span c.turn-sum.ensures read
