@@ -1,5 +1,5 @@
 -- A tone, summed part by part.
-use Rattle.std.proofs.Common.{◌≡◌, ℕ, ◌+◌, ◌*◌, ◌/◌, ◌%◌, ◌<◌, List, get_or, sym, ap, ◌∙◌, arith}
+use Rattle.std.proofs.Common.{◌≡◌, ℕ, ◌+◌, ◌*◌, ◌/◌, ◌%◌, ◌<◌, List, get_or, sym, ap, ◌∙◌, mod-lt, arith}
 use Rattle.std.proofs.lemmas.Nat.{mod-mul-add}
 use Rattle.arithmetic.specs.Meaning.{Meaning}
 use Rattle.arithmetic.specs.Series.{series}
@@ -15,6 +15,7 @@ pub record Summed {A R : Type 0} (m : Meaning A R) (r len : ℕ) (block : List A
   pub turned : at ≡ exponent m.span (r * len) k q
   pub by : step ≡ k * (m.span / (r * len))
   pub circle : span ≡ m.span
+  pub below : at < m.span
 
 module _ {A R : Type 0} (m : Meaning A R) where
   -- what stands in the column, turned, is the tone's term
@@ -53,6 +54,7 @@ module _ {A R : Type 0} (m : Meaning A R) where
             turned = first ∙ step_is ∙ exponent_one m.span (r * len) l (place_below i len j r row column);
             by = by ∙ step_is;
             circle = circle;
+            below = let less = step_within k u is unit in omega arith;
           }
 
       pub summed_more : (at' step' span' p : ℕ) (x y z : A) {q at step span : ℕ} {sum : A} → Summed m r len xs (i * len + j) q sum at step span → 0 < q → at' ≡ (at + step) % span → step' ≡ step → span' ≡ span → p ≡ q * len + j → y ≡ get_or xs p m.zero → x ≡ m.turn y at → z ≡ m.sum sum x → Summed m r len xs (i * len + j) (q + 1) z at' step' span'
@@ -69,6 +71,7 @@ module _ {A R : Type 0} (m : Meaning A R) where
                 ∙ exponent_more m.span (r * len) l sound.circle sound.divides q some;
             by = stays ∙ so.by;
             circle = round ∙ so.circle;
+            below = rw (on ∙ ap (λ w. (at + step) % w) so.circle) (mod-lt (at + step) sound.circle);
           }
 
   pub summed_all : {r len k q at step span : ℕ} {sum : A} {xs : List A} → Summed m r len xs k q sum at step span → q ≡ r → sum ≡ tone m r len xs k

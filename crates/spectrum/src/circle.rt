@@ -3,6 +3,15 @@ ghost use Rattle.std.specs.Prelude.{◌≡◌, ◌+◌, ◌%◌, ◌^◌, ◌<�
 
 use arithmetic::Arithmetic;
 
+// One step round a circle of `span` places, with no division.
+pub(crate) fn onward(at: usize, step: usize, span: usize) -> usize
+    requires { (at < span) × ((step < span) × (span < 2 ^ 32)) }
+    ensures answer { result ≡ (at + step) % span }
+{
+    let next = at + step;
+    if next < span { next } else { next - span }
+}
+
 // A place on a circle of `span` places, and how far it is to the next turn.
 #[derive(Clone, Copy)]
 pub struct Angle {
@@ -26,21 +35,6 @@ impl Angle {
         Angle { at: 0, step, span }
     }
 
-    // One step on from the first place. That the step is less is asked, and not tested as in `by`: a test here makes
-    // a transform a twelfth slower.
-    pub(crate) fn stepped<X: Arithmetic>(step: usize) -> Angle
-        requires { step < X.Arithmetic.meaning.span }
-        ensures at { result.at ≡ step }
-        ensures step { result.step ≡ step }
-        ensures span { result.span ≡ X.Arithmetic.meaning.span }
-    {
-        Angle {
-            at: step,
-            step,
-            span: X::span() as usize,
-        }
-    }
-
     // How many places past the first.
     pub fn place(self) -> u32
         ensures { result ≡ self.at }
@@ -54,14 +48,8 @@ impl Angle {
         ensures step { result.step ≡ self.step }
         ensures span { result.span ≡ self.span }
     {
-        let next = self.at + self.step;
-        let at = if next < self.span {
-            next
-        } else {
-            next - self.span
-        };
         Angle {
-            at,
+            at: onward(self.at, self.step, self.span),
             step: self.step,
             span: self.span,
         }

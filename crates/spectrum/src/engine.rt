@@ -7,7 +7,7 @@ ghost use Rattle.spectra.specs.Tones.{tone, combine};
 ghost use Rattle.spectra.specs.Stages.{staged, stages as every_stage};
 ghost use Rattle.spectrum.specs.Shapes.{Column};
 
-use crate::circle::Angle;
+use crate::circle::onward;
 use crate::shape::Shape;
 use crate::suited::Suited;
 use arithmetic::Arithmetic;
@@ -52,12 +52,15 @@ impl<X: Arithmetic> Shape<X> {
         requires whole { length block.now ≡ self.now.radix * self.now.len }
         ensures { result ≡ tone X.Arithmetic.meaning self.now.radix self.now.len block.now (i * self.now.len + j) }
     {
-        let mut angle = Angle::stepped::<X>(self.place(i, j) * self.unit);
+        let span = X::span() as usize;
+        let step = self.place(i, j) * self.unit;
         let mut sum = block[j].turn(0);
+        let mut e = step;
         // By number: part `q` turns as it stands, at a place that its number says, and steps of an iterator would say neither.
+        // The exponent is a word of its own: with an `Angle` in this loop a transform takes a tenth longer.
         for q in 1..self.radix {
-            sum = sum.sum(block[self.place(q, j)].turn(angle.place()));
-            angle = angle.onward();
+            sum = sum.sum(block[self.place(q, j)].turn(e as u32));
+            e = onward(e, step, span);
         }
         sum
     }
