@@ -1,13 +1,13 @@
 -- The laws of sheets, over any lawful arithmetic: call by call, and so over any list of calls.
-use Rattle.std.proofs.Common.{◌≡◌, ℕ, ◌+◌, Bool, true, false, cond, List, [], ◌∷◌, ◌++◌, length, get_or, drop, is_ok, Ok, Err, Result, sym, refl, ap, ◌∙◌, subst}
+use Rattle.std.proofs.Common.{◌≡◌, ℕ, ◌+◌, Bool, true, false, cond, List, [], ◌∷◌, ◌++◌, length, get_or, drop, Some, is_ok, Ok, Err, Result, sym, refl, ap, ◌∙◌, subst}
+use Rattle.std.specs.Result.{result_and}
 use Rattle.std.proofs.lemmas.List.{get_or-drop}
 use Rattle.arithmetic.specs.Meaning.{Meaning}
 use Rattle.arithmetic.specs.Laws.{Lawful, Divides}
 use Rattle.arithmetic.proofs.Ladder.{ExactLaws, exact_laws}
 use Rattle.refusal.specs.declared.Fault.{Fault}
 use Rattle.spectra.proofs.SpectraByPlace.{value_of_tone}
-use Rattle.cells.specs.declared.answers.Answer.TheVariants.{Heard}
-use Rattle.cells.specs.Plain.{PlainCall, edit, shift, mirror, lay, tone, plainly_granted, moved, told, answered, plain_after, plain_answer, plain_finally, plain_answers}
+use Rattle.cells.specs.Plain.{PlainCall, edit, shift, mirror, lay, tone, plainly_granted, moved, told, plain_after, plain_answer, plain_finally, plain_answers}
 use Rattle.cells.specs.Cells.{granted, followed, tones_after}
 use Rattle.cells.specs.Holding.{Holds}
 use Rattle.cells.specs.Played.{sheet_told, sheet_after, sheet_answer, sheet_finally, sheet_answers}
@@ -37,7 +37,7 @@ module _ {A R : Type 0} {m : Meaning A R} (law : ExactLaws m) (exact : m.exact �
       let y = drop (length a) cells in
       let cell : get_or cells (length a + k) m.zero ≡ get_or y k m.zero = sym (get_or-drop (length a) cells k m.zero) in
       let value = value_of_tone m a y h.sums k (numbered_within (length a) k granted) in
-      ap Heard (ap m.reading cell ∙ sym (law.exact.reading_of_value (get_or y k m.zero)) ∙ ap m.reading value)
+      ap Some (ap m.reading cell ∙ sym (law.exact.reading_of_value (get_or y k m.zero)) ∙ ap m.reading value)
 
   followed_holds : (c : PlainCall A) → Ok tt ≡ plainly_granted (length a) c → Holds m (moved m c a) (followed m (length a) c cells)
   followed_holds c granted =
@@ -47,8 +47,8 @@ module _ {A R : Type 0} {m : Meaning A R} (law : ExactLaws m) (exact : m.exact �
 
   -- by what the plain sheet says of the call
   by_grant : (c : PlainCall A) (r : Result (Unit {0}) Fault) → r ≡ plainly_granted (length a) c →
-      (answered r (sheet_told m (length a) c cells) ≡ answered r (told m c a)) × Holds m (cond (is_ok r) (moved m c a) a) (cond (is_ok r) (followed m (length a) c cells) cells)
-  by_grant c (Ok done) is = (told_as_plain c is, followed_holds c is)
+      (result_and r (Ok (sheet_told m (length a) c cells)) ≡ result_and r (Ok (told m c a))) × Holds m (cond (is_ok r) (moved m c a) a) (cond (is_ok r) (followed m (length a) c cells) cells)
+  by_grant c (Ok done) is = (ap Ok (told_as_plain c is), followed_holds c is)
   by_grant c (Err f) is = (refl, h)
 
   one_call : (c : PlainCall A) → (sheet_answer m (length a) c cells ≡ plain_answer m c a) × Holds m (plain_after m c a) (sheet_after m (length a) c cells)

@@ -1,13 +1,12 @@
 -- The plain sheet: a list of N samples and nothing else, and what every call makes of it.
-use Rattle.std.specs.Prelude.{ℕ, cond, List, [], ◌∷◌, length, is_ok, Ok, Err, Result, nat_lt, slice_set}
+use Rattle.std.specs.Prelude.{ℕ, cond, List, [], ◌∷◌, length, Option, Some, None, is_ok, Ok, Err, Result, nat_lt, slice_set}
+use Rattle.std.specs.Result.{result_and}
 use Rattle.arithmetic.specs.Meaning.{Meaning}
 use Rattle.refusal.specs.declared.Fault.{Fault}
 use Rattle.refusal.specs.declared.Fault.TheVariants.{Place}
 use Rattle.spectrum.specs.Granted.{whole}
 use Rattle.spectra.specs.Moves.{shifted, mirrored, laid}
 use Rattle.spectra.specs.Spectra.{defining}
-use Rattle.cells.specs.declared.answers.Answer.{Answer}
-use Rattle.cells.specs.declared.answers.Answer.TheVariants.{Done, Heard, Refused}
 
 -- a call with its arguments
 pub data PlainCall (A : Type 0) : Type 0 where
@@ -37,26 +36,21 @@ moved m mirror a = mirrored m.zero a
 moved m (lay b) a = laid m a b
 moved m (tone k) a = a
 
--- what a granted call answers: a tone its defining sum, as the arithmetic reads it
-abbrev pub told : {A R : Type 0} → Meaning A R → PlainCall A → List A → Answer R
-told m (edit i v) a = Done
-told m (shift h) a = Done
-told m mirror a = Done
-told m (lay b) a = Done
-told m (tone k) a = Heard (m.reading (defining m a k))
-
--- the answer where the call is granted, or its refusal
-abbrev pub answered : {R : Type 0} → Result (Unit {0}) Fault → Answer R → Answer R
-answered (Ok done) answer = answer
-answered (Err f) answer = Refused f
+-- what a granted call tells: a tone its defining sum, as the arithmetic reads it, and the others nothing
+abbrev pub told : {A R : Type 0} → Meaning A R → PlainCall A → List A → Option R
+told m (edit i v) a = None
+told m (shift h) a = None
+told m mirror a = None
+told m (lay b) a = None
+told m (tone k) a = Some (m.reading (defining m a k))
 
 -- the samples after a call
 abbrev pub plain_after : {A R : Type 0} → Meaning A R → PlainCall A → List A → List A
 plain_after m c a = cond (is_ok (plainly_granted (length a) c)) (moved m c a) a
 
--- what a call answers
-abbrev pub plain_answer : {A R : Type 0} → Meaning A R → PlainCall A → List A → Answer R
-plain_answer m c a = answered (plainly_granted (length a) c) (told m c a)
+-- what a call answers: what it tells where it is granted, or its refusal
+abbrev pub plain_answer : {A R : Type 0} → Meaning A R → PlainCall A → List A → Result (Option R) Fault
+plain_answer m c a = result_and (plainly_granted (length a) c) (Ok (told m c a))
 
 -- the samples after every call of a list
 abbrev pub plain_finally : {A R : Type 0} → Meaning A R → List (PlainCall A) → List A → List A
@@ -64,6 +58,6 @@ plain_finally m [] a = a
 plain_finally m (c ∷ cs) a = plain_finally m cs (plain_after m c a)
 
 -- what the calls of a list answer, in turn
-abbrev pub plain_answers : {A R : Type 0} → Meaning A R → List (PlainCall A) → List A → List (Answer R)
+abbrev pub plain_answers : {A R : Type 0} → Meaning A R → List (PlainCall A) → List A → List (Result (Option R) Fault)
 plain_answers m [] a = []
 plain_answers m (c ∷ cs) a = plain_answer m c a ∷ plain_answers m cs (plain_after m c a)

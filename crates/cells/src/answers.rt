@@ -1,10 +1,4 @@
-// What a call on a sheet answers.
+// What a call on a sheet answers: a tone its reading, the others nothing, and each its refusal.
 use refusal::Fault;
 
-#[derive(Clone, Copy)]
-pub enum Answer<R> {
-    Done,
-    // A tone, read.
-    Heard(R),
-    Refused(Fault),
-}
+pub type Answer<R> = Result<Option<R>, Fault>;

@@ -1,9 +1,9 @@
 -- A replay keeps up with the plain sheet.
-use Rattle.std.proofs.Common.{◌≡◌, ℕ, List, length, take, Ok, ap, ◌∙◌, subst}
+use Rattle.std.proofs.Common.{◌≡◌, ℕ, List, length, take, Option, Ok, Result, ap, ◌∙◌, subst}
 use Rattle.arithmetic.specs.Meaning.{Meaning}
 use Rattle.arithmetic.specs.Laws.{Lawful, Divides}
 use Rattle.plan.specs.Radices.{size}
-use Rattle.cells.specs.declared.answers.Answer.{Answer}
+use Rattle.refusal.specs.declared.Fault.{Fault}
 use Rattle.cells.specs.Plain.{PlainCall, plain_finally, plain_answers}
 use Rattle.cells.specs.Holding.{Holds}
 use Rattle.cells.specs.Opening.{sized, opened}
@@ -26,7 +26,7 @@ module _ {A R : Type 0} {m : Meaning A R} (law : Lawful m) (rs : List ℕ) (j n 
       let Run : ℕ → Type 0 = λ k. (sheet_answers m k cs start ≡ plain_answers m cs a) × Holds m (plain_finally m cs a) (sheet_finally m k cs start) in
       subst Run long ((sheet_laws law).run fits.exact a start z holds cs)
 
-  pub replayed_answers : (answers : List (Answer R)) → answers ≡ sheet_answers m n cs start → answers ≡ plain_answers m cs (take (size rs) cells)
+  pub replayed_answers : (answers : List (Result (Option R) Fault)) → answers ≡ sheet_answers m n cs start → answers ≡ plain_answers m cs (take (size rs) cells)
   replayed_answers answers is = is ∙ played_as_plain.0 ∙ ap (λ k. plain_answers m cs (take k cells)) (opened_length m rs (length cells) j n work sizes opens)
 
   pub replayed_holds : (left : List A) → left ≡ sheet_finally m n cs start → Holds m (plain_finally m cs (take (size rs) cells)) left

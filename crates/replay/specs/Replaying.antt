@@ -1,5 +1,5 @@
 -- A list of calls played on a sheet that is opened for it.
-use Rattle.std.specs.Prelude.{ℕ, List, map, take, Result}
+use Rattle.std.specs.Prelude.{ℕ, List, Option, map, take, Result}
 use Rattle.std.specs.Result.{result_and}
 use Rattle.arithmetic.specs.Meaning.{Meaning}
 use Rattle.plan.specs.Radices.{size}
@@ -7,7 +7,6 @@ use Rattle.refusal.specs.declared.Fault.{Fault}
 use Rattle.spectrum.specs.Granted.{whole}
 use Rattle.replay.specs.declared.calls.Call.{Call}
 use Rattle.replay.specs.declared.calls.Call.TheVariants.{Edit, Shift, Mirror, Lay, Tone}
-use Rattle.cells.specs.declared.answers.Answer.{Answer}
 use Rattle.cells.specs.Plain.{PlainCall, edit, shift, mirror, lay, tone, plain_finally, plain_answers}
 use Rattle.cells.specs.Opening.{sized, roomy, filled}
 use Rattle.cells.specs.Played.{sheet_finally}
@@ -26,7 +25,7 @@ replayed m rs len work calls answers =
     result_and (sized m rs len) (result_and (whole calls answers) (roomy (size rs) work))
 
 -- what the plain sheet answers to the calls, where it begins with the samples among the cells
-abbrev pub answers_to : {A R : Type 0} → Meaning A R → List ℕ → List (Call A) → List A → List (Answer R)
+abbrev pub answers_to : {A R : Type 0} → Meaning A R → List ℕ → List (Call A) → List A → List (Result (Option R) Fault)
 answers_to m rs calls cells = plain_answers m (map plainly calls) (take (size rs) cells)
 
 -- the samples that it then has

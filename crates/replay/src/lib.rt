@@ -2,8 +2,6 @@
 #![tactic(auto)]
 
 ghost use Rattle.std.specs.Prelude.{◌≡◌, map, length, replicate, is_ok, if◌then◌else◌, OnOk};
-ghost use Rattle.cells.specs.declared.answers.Answer.TheVariants.{Done as done};
-ghost use Rattle.cells.specs.Plain.{answered};
 ghost use Rattle.cells.specs.Holding.{Holds};
 ghost use Rattle.cells.specs.Played.{sheet_answer, sheet_after, sheet_finally, sheet_answers};
 ghost use Rattle.sheet.specs.Lent.{cells_of, length_of, Kept};
@@ -18,16 +16,6 @@ mod calls;
 
 pub use calls::Call;
 
-// The answer of a call that has nothing to tell.
-fn told<R>(res: Result<(), Fault>) -> Answer<R>
-    ensures answer { result ≡ answered res done }
-{
-    match res {
-        Ok(()) => Answer::Done,
-        Err(f) => Answer::Refused(f),
-    }
-}
-
 // One call, with its answer.
 fn play<X: Arithmetic>(sheet: &mut Sheet<'_, X>, call: &Call<'_, X>) -> Answer<X::Reading>
     ensures answer { result ≡ sheet_answer X.Arithmetic.meaning (length_of sheet.old) (plainly call.now) (cells_of sheet.old) }
@@ -35,14 +23,11 @@ fn play<X: Arithmetic>(sheet: &mut Sheet<'_, X>, call: &Call<'_, X>) -> Answer<X
     ensures kept { Kept sheet.old sheet.new }
 {
     match call {
-        Call::Edit(i, v) => told(sheet.edit(*i, *v)),
-        Call::Shift(h) => told(sheet.shift(*h)),
-        Call::Mirror => told(sheet.mirror()),
-        Call::Lay(laid) => told(sheet.lay(laid)),
-        Call::Tone(k) => match sheet.tone(*k) {
-            Ok(reading) => Answer::Heard(reading),
-            Err(f) => Answer::Refused(f),
-        },
+        Call::Edit(i, v) => sheet.edit(*i, *v).map(|()| None),
+        Call::Shift(h) => sheet.shift(*h).map(|()| None),
+        Call::Mirror => sheet.mirror().map(|()| None),
+        Call::Lay(laid) => sheet.lay(laid).map(|()| None),
+        Call::Tone(k) => sheet.tone(*k).map(Some),
     }
 }
 
@@ -59,8 +44,8 @@ where
     ensures after { cells_of sheet.new ≡ sheet_finally X.Arithmetic.meaning (length_of sheet.old) (map plainly calls.now) (cells_of sheet.old) }
     ensures kept { Kept sheet.old sheet.new }
 {
-    for i in 0..calls.len() {
-        answers[i] = play(sheet, &calls[i]);
+    for (i, call) in calls.iter().enumerate() {
+        answers[i] = play(sheet, call);
     }
 }
 

@@ -1,12 +1,9 @@
-use Rattle.std.proofs.Common.{◌≡◌, ◌<◌, ◌≤◌, length, sym, ap, ◌∙◌, arith, rules}
+use Rattle.std.proofs.Common.{◌≡◌, ◌<◌, ◌≤◌, length, sym, ap, ◌∙◌, arith}
 use Rattle.cells.specs.Played.{sheet_answer, sheet_after}
 use Rattle.sheet.specs.Lent.{cells_of, length_of}
 use Rattle.replay.specs.Replaying.{plainly}
 use Rattle.replay.proofs.Playing.{finally_more, finally_all, answers_more, answers_all}
 use Rattle.replay.proofs.play_all.Goals as goal
-
-pub offset_bounds-answers-i : goal.offset_bounds-answers-i
-offset_bounds-answers-i g c = let room : c.loop-i.i < length c.args.answers.now = omega arith in search rules
 
 pub loop-i-preserved : goal.loop-i-preserved
 loop-i-preserved g c =
