@@ -2,7 +2,7 @@
 use Rattle.std.proofs.Common.{◌≡◌, ℕ, ◌+◌, ◌-◌, ◌*◌, ◌%◌, ◌<◌, ◌≤◌, List, ◌++◌, length, get_or, take, drop, set, sym, ap, ◌∙◌, ⊎_elim, arith}
 use lib.Seq.{take-set-lt}
 use borrow.Rule.Slice.PartMut.{put_mid}
-use Rattle.std.proofs.lemmas.List.{get_or_read, get_or-take, get_or-drop, get_or_append_left, get_or-append_right, drop-set-lt, length-set, length-append, length-drop, length-take-le}
+use Rattle.std.proofs.lemmas.List.{get_or_default, get_or-take, get_or-drop, get_or_append_left, get_or-append_right, drop-set-lt, length-set, length-append, length-drop, length-take-le}
 use Rattle.std.proofs.lemmas.List.FromFn.{fill_by_all}
 use Rattle.std.proofs.lemmas.Bool.{cases_lt}
 use Rattle.arithmetic.specs.Meaning.{Meaning}
@@ -31,12 +31,12 @@ rotated d h a l =
     (cases_lt (t + h) n))
 
 module _ {A R : Type 0} (m : Meaning A R) (n : ℕ) (cells : List A) (whole : length cells ≡ 2 * n) where
-  pub edited_cells : (i : ℕ) (v old change : A) (ys : List A) → i < n → old ≡ get_or cells i old → change ≡ m.difference v old → ys ≡ tones_edited m i change (take (2 * n - n) (drop n (set cells i v))) →
+  pub edited_cells : (i : ℕ) (v d change : A) (ys : List A) → i < n → change ≡ m.difference v (get_or cells i d) → ys ≡ tones_edited m i change (take (2 * n - n) (drop n (set cells i v))) →
       put_mid n (2 * n - n) (set cells i v) ys ≡ followed m n (edit i v) cells
-  edited_cells i v old change ys l read is made =
+  edited_cells i v d change ys l is made =
       let long : length (set cells i v) ≡ 2 * n = length-set cells i v ∙ whole in
-      let was : old ≡ get_or (take n cells) i m.zero =
-      get_or_read cells i old (omega arith) read m.zero ∙ sym (get_or-take n cells i m.zero l) in
+      let was : get_or cells i d ≡ get_or (take n cells) i m.zero =
+      get_or_default cells i d m.zero (omega arith) ∙ sym (get_or-take n cells i m.zero l) in
       let tones : ys ≡ tones_edited m i (m.difference v (get_or (take n cells) i m.zero)) (drop n cells) =
       made ∙ ap (tones_edited m i change) (lent_tones n (set cells i v) long ∙ drop-set-lt n cells i v l)
       ∙ ap (λ x. tones_edited m i x (drop n cells)) (is ∙ ap (m.difference v) was) in

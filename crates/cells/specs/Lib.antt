@@ -4,3 +4,4 @@ pub mod Holding
 pub mod Opening
 pub mod Played
 pub mod SheetLaws
+pub mod Lent

@@ -4,7 +4,7 @@
 ghost use Rattle.std.specs.Prelude.{◌≡◌, map, length, replicate, is_ok, if◌then◌else◌, OnOk};
 ghost use Rattle.cells.specs.Holding.{Holds};
 ghost use Rattle.cells.specs.Played.{sheet_answer, sheet_after, sheet_finally, sheet_answers};
-ghost use Rattle.sheet.specs.Lent.{cells_of, length_of, Kept};
+ghost use Rattle.cells.specs.Lent.{cells_of, length_of, Kept};
 ghost use Rattle.replay.specs.Replaying.{plainly, replayed, answers_to, samples_left, cells_played};
 
 use arithmetic::Arithmetic;

@@ -2,7 +2,6 @@
 #![tactic(auto)]
 
 mod opening;
-mod sheets;
 
+pub use cells::Sheet;
 pub use opening::{open, sized};
-pub use sheets::Sheet;

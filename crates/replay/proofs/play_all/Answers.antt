@@ -1,6 +1,6 @@
 use Rattle.std.proofs.Common.{◌≡◌, ◌<◌, ◌≤◌, length, sym, ap, ◌∙◌, arith}
 use Rattle.cells.specs.Played.{sheet_answer, sheet_after}
-use Rattle.sheet.specs.Lent.{cells_of, length_of}
+use Rattle.cells.specs.Lent.{cells_of, length_of}
 use Rattle.replay.specs.Replaying.{plainly}
 use Rattle.replay.proofs.Playing.{finally_more, finally_all, answers_more, answers_all}
 use Rattle.replay.proofs.play_all.Goals as goal

@@ -1,6 +1,6 @@
 use Rattle.std.proofs.Common.{◌≡◌, ◌++◌, map, take, drop}
 use Rattle.cells.specs.Played.{sheet_finally, sheet_answers}
-use Rattle.sheet.specs.Lent.{cells_of, length_of, Kept}
+use Rattle.cells.specs.Lent.{cells_of, length_of, Kept}
 use Rattle.replay.specs.Replaying.{plainly}
 use Rattle.replay.proofs.play_all.Given as goal
 

@@ -2,7 +2,7 @@ use Rattle.std.proofs.Common.{◌≡◌, map, length, ap, ◌∙◌, rules}
 use Rattle.plan.specs.Radices.{size}
 use Rattle.cells.specs.Opening.{filled}
 use Rattle.cells.specs.Played.{sheet_finally, sheet_answers}
-use Rattle.sheet.specs.Lent.{cells_of}
+use Rattle.cells.specs.Lent.{cells_of}
 use Rattle.replay.specs.Replaying.{plainly}
 use Rattle.replay.proofs.Opened.{opened_length, replay_granted}
 use Rattle.replay.proofs.Replaying.{replayed_answers, replayed_holds}

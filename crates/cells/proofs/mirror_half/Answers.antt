@@ -1,5 +1,0 @@
-use Rattle.spectra.proofs.Mirroring.{mirrored_in_place}
-use Rattle.cells.proofs.mirror_half.Goals as goal
-
-pub returns : goal.returns
-returns g c = record { after = mirrored_in_place _ _ _ c.requires c.reverse.ensures.after }
