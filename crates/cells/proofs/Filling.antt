@@ -58,7 +58,7 @@ module _ {A R : Type 0} (m : Meaning A R) (rs : List ℕ) (n : ℕ) (cells work 
       ap (λ ys. take (2 * n - n) (drop n ys)) doubled ∙ lent_tones n (take n cells ++ take n cells) twice
       ∙ drop_at (take n cells) (take n cells) n (length_samples n cells whole)
 
-  pub lent_work : length (ws ++ post_of 0 (n - 0) work) ≡ length work
+  lent_work : length (ws ++ post_of 0 (n - 0) work) ≡ length work
   lent_work = simp (length-append, length-drop) (omega (arith, many, enough))
 
   pub not_refused : (f : Fault) → Err f ≡ transformed m.span rs (length (take (2 * n - n) (drop n (put_mid n (2 * n - n) cells xs)))) (length (ws ++ post_of 0 (n - 0) work)) → ⊥

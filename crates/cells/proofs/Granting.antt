@@ -9,7 +9,7 @@ use Rattle.plan.specs.Radices.{size, turns}
 use Rattle.spectrum.specs.Granted.{scratch, divided, lent, plans, whole, transformed}
 use Rattle.cells.specs.Plain.{numbered}
 use Rattle.cells.specs.Cells.{sheet_for}
-use Rattle.cells.specs.Opening.{sized, roomy, opened}
+use Rattle.cells.specs.Opening.{sized}
 
 -- n samples with their tones fit into len cells
 pub record Fits {A R : Type 0} (m : Meaning A R) (n len : ℕ) : Type 0 where
@@ -30,9 +30,6 @@ numbered_within n k is = grind (arith, nat_tests)
 pub whole_length : (n len : ℕ) → Ok tt ≡ whole n len → len ≡ n
 whole_length n len is = grind (arith, nat_tests)
 
-pub whole_granted : (n len : ℕ) → len ≡ n → Ok tt ≡ whole n len
-whole_granted n len is = grind (arith, nat_tests)
-
 -- where nothing is refused, the call answers
 pub both_granted : {X : Type 0} (first : Result (Unit {0}) Fault) (answer : Result X Fault) → Ok tt ≡ first → answer ≡ result_and first answer
 both_granted first answer one = cc
@@ -46,8 +43,8 @@ pub record Sized {A R : Type 0} (m : Meaning A R) (rs : List ℕ) (len n : ℕ) 
 
 from_both : (p : Result (List ℕ) Fault) (s : Result (Unit {0}) Fault) (n k : ℕ) → Ok n ≡ result_and p (result_and s (Ok k)) → ((qs : List ℕ) × (Ok qs ≡ p)) × (Ok tt ≡ s) × (n ≡ k)
 from_both (Ok rs) (Ok done) n k is = ((rs, refl), refl, cc)
-from_both (Ok rs) (Err f) n k is = let z : ◌≡◌ {A = ℕ} 0 1 = cc in absurd (omega arith)
-from_both (Err f) s n k is = let z : ◌≡◌ {A = ℕ} 0 1 = cc in absurd (omega arith)
+from_both (Ok rs) (Err f) n k is = absurd (cc)
+from_both (Err f) s n k is = absurd (cc)
 
 pub sized_from_granted : {A R : Type 0} (m : Meaning A R) (rs : List ℕ) (len n : ℕ) → Ok n ≡ sized m rs len → Sized m rs len n
 sized_from_granted m rs len n is =
@@ -55,13 +52,6 @@ sized_from_granted m rs len n is =
     record { granted = s.0.0; plan = s.0.1; sheet = s.1; length = s.2 }
 
 module _ {A R : Type 0} (m : Meaning A R) (rs : List ℕ) (len n work : ℕ) (is : Ok n ≡ sized m rs len) (room : n + scratch ≤ work) where
-  pub open_granted : Ok n ≡ opened m rs len work
-  open_granted =
-      let s = sized_from_granted m rs len n is in
-      let l = s.length in
-      let enough : Ok tt ≡ roomy (size rs) work = grind (arith, nat_tests) in
-      ap Ok l ∙ both_granted (roomy (size rs) work) (Ok (size rs)) enough ∙ ap (λ x. result_and x (result_and (roomy (size rs) work) (Ok (size rs)))) is
-
   -- a transform of the second half is not refused
   pub transform_granted : Ok (turns rs) ≡ transformed m.span rs n work
   transform_granted =
@@ -78,5 +68,4 @@ module _ {A R : Type 0} (m : Meaning A R) (rs : List ℕ) (len n work : ℕ) (is
   transform_not_refused k room' f one two refused =
       let grants = transform_granted in
       let both : Err f ≡ transformed m.span rs n work = refused ∙ ap (λ x. transformed m.span rs x room') one ∙ ap (transformed m.span rs n) two in
-      let z : ◌≡◌ {A = ℕ} 0 1 = cc in
-      omega arith
+      cc

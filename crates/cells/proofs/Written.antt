@@ -1,5 +1,5 @@
 -- A loop that writes one place after the other.
-use Rattle.std.proofs.Common.{◌≡◌, ℕ, ◌+◌, ◌<◌, ◌≤◌, ◌≢◌, List, map, length, get_or, set, refl, ◌∙◌, arith}
+use Rattle.std.proofs.Common.{◌≡◌, ℕ, ◌+◌, ◌<◌, ◌≤◌, ◌≢◌, List, map, length, get_or, set, ◌∙◌, arith}
 use Rattle.std.specs.List.{range_with_len}
 use Rattle.std.proofs.lemmas.List.{get_or-set_other}
 use Rattle.std.proofs.lemmas.List.Edits.{fill_by_more}
@@ -11,9 +11,6 @@ pub record Written {A : Type 0} (d : A) (f : ℕ → A) (k : ℕ) (before after 
   pub rest : (j : ℕ) → k ≤ j → get_or after j d ≡ get_or before j d
 
 module _ {A : Type 0} {d : A} {f : ℕ → A} {before : List A} where
-  pub written_none : Written d f 0 before before
-  written_none = record { made = λ j l. absurd (omega arith); rest = λ j l. refl }
-
   pub written_more : (k : ℕ) (x : A) {after : List A} → Written d f k before after → k < length after → x ≡ f k → Written d f (k + 1) before (set after k x)
   written_more k x {after} so l is = record {
     made = rw is (fill_by_more f after k d l so.made);

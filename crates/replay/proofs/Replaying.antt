@@ -19,7 +19,7 @@ module _ {A R : Type 0} {m : Meaning A R} (law : Lawful m) (rs : List ℕ) (j n 
   played_as_plain : (sheet_answers m n cs start ≡ plain_answers m cs (take n cells)) × Holds m (plain_finally m cs (take n cells)) (sheet_finally m n cs start)
   played_as_plain =
       let sheet = (sized_from_granted m rs (length cells) j sizes).sheet in
-      let fits : Fits m n (length cells) = rw (opened_length m rs (length cells) j n work sizes opens) (fits_from_granted m (size rs) (length cells) sheet) in
+      let fits : Fits m n (length cells) = rw (opened_length m rs (length cells) n work opens) (fits_from_granted m (size rs) (length cells) sheet) in
       let a = take n cells in
       let long : length a ≡ n = length_samples n cells fits.whole in
       let z : Divides (length a) m.span = rw long fits.divides in
@@ -27,8 +27,8 @@ module _ {A R : Type 0} {m : Meaning A R} (law : Lawful m) (rs : List ℕ) (j n 
       subst Run long ((sheet_laws law).run fits.exact a start z holds cs)
 
   pub replayed_answers : (answers : List (Result (Option R) Fault)) → answers ≡ sheet_answers m n cs start → answers ≡ plain_answers m cs (take (size rs) cells)
-  replayed_answers answers is = is ∙ played_as_plain.0 ∙ ap (λ k. plain_answers m cs (take k cells)) (opened_length m rs (length cells) j n work sizes opens)
+  replayed_answers answers is = is ∙ played_as_plain.0 ∙ ap (λ k. plain_answers m cs (take k cells)) (opened_length m rs (length cells) n work opens)
 
   pub replayed_holds : (left : List A) → left ≡ sheet_finally m n cs start → Holds m (plain_finally m cs (take (size rs) cells)) left
   replayed_holds left is =
-      subst (λ k. Holds m (plain_finally m cs (take k cells)) left) (opened_length m rs (length cells) j n work sizes opens) (rw is played_as_plain.1)
+      subst (λ k. Holds m (plain_finally m cs (take k cells)) left) (opened_length m rs (length cells) n work opens) (rw is played_as_plain.1)
