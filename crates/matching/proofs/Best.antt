@@ -1,9 +1,8 @@
 -- The least index at which f is largest, one index at a time.
-use Rattle.std.proofs.Common.{◌≡◌, ℕ, zero, suc, ◌+◌, ◌<◌, ◌≤◌, Bool, true, false, cond, ℤ, pos, ◌≤ℤ◌, ◌<ℤ◌, sym, refl, ap, ◌∙◌, ⊎_elim, eq-or-lt_of_le, add-one, arith}
+use Rattle.std.proofs.Common.{◌≡◌, ℕ, zero, suc, ◌+◌, ◌<◌, ◌≤◌, Bool, true, false, cond, ℤ, ◌≤ℤ◌, ◌<ℤ◌, sym, refl, ap, ◌∙◌, ⊎_elim, eq-or-lt_of_le, add-one, arith}
 use lib.Signed.{lt_z}
 use Rattle.std.proofs.lemmas.Int.{ints}
-use Rattle.std.proofs.lemmas.Bool.{lt-ltb, le-ltb}
-use Rattle.matching.specs.Lags.{best, best_count, LeastBest}
+use Rattle.matching.specs.Lags.{best, LeastBest}
 
 chosen : (t : Bool) (n k : ℕ) → k ≤ n → cond t n k ≤ n
 chosen true n k h = omega arith
@@ -64,21 +63,21 @@ leads f (suc n) = leads_more f n (best f n) (lt_z (f (best f n)) (f n)) refl (le
 pub least_best : (f : ℕ → ℤ) (n : ℕ) → 0 < n → LeastBest f n (best f n)
 least_best f n some = let so = leads f n in record { below = best_below f n some; largest = so.0; least = so.1 }
 
--- ---- of counts, with the largest so far
-module _ (f : ℕ → ℕ) where
-  pub record Largest (i b most : ℕ) : Type 0 where
-    pub is : b ≡ best_count f i
-    pub sum : most ≡ f b
+-- ---- with the largest so far
+module _ (f : ℕ → ℤ) where
+  pub record Largest (i b : ℕ) (most : ℤ) : Type 0 where
+    pub is : b ≡ best f i
+    pub value : most ≡ f b
 
-  pub largest_one : (most : ℕ) → most ≡ f 0 → Largest 1 0 most
-  largest_one most first = record { is = best_one (λ k. pos (f k)); sum = first }
+  pub largest_one : (most : ℤ) → most ≡ f 0 → Largest 1 0 most
+  largest_one most first = record { is = best_one f; value = first }
 
-  module _ (i b most next : ℕ) (so_far : Largest i b most) (here : next ≡ f i) where
-    at_best : f (best_count f i) ≡ most
-    at_best = sym (so_far.sum ∙ ap f so_far.is)
+  module _ (i b : ℕ) (most next : ℤ) (so_far : Largest i b most) (here : next ≡ f i) where
+    compared : (t : Bool) → lt_z most next ≡ t → lt_z (f (best f i)) (f i) ≡ t
+    compared t test = rw (so_far.value ∙ ap f so_far.is, here) at test
 
-    pub largest_takes : most < next → Largest (i + 1) i next
-    largest_takes more = record { is = best_takes (λ k. pos (f k)) i (lt-ltb _ _ (rw (at_best, sym here) more)); sum = here }
+    pub largest_takes : lt_z most next ≡ true → Largest (i + 1) i next
+    largest_takes more = record { is = best_takes f i (compared true more); value = here }
 
-    pub largest_keeps : next ≤ most → Largest (i + 1) b most
-    largest_keeps none = record { is = so_far.is ∙ best_keeps (λ k. pos (f k)) i (le-ltb _ _ (rw (at_best, sym here) none)); sum = so_far.sum }
+    pub largest_keeps : lt_z most next ≡ false → Largest (i + 1) b most
+    largest_keeps none = record { is = so_far.is ∙ best_keeps f i (compared false none); value = so_far.value }

@@ -1,9 +1,8 @@
 mod Standing
 mod Totals
 mod LaggedSums
-mod Entering
+mod Made
 mod Best
-mod Filling
 mod WholeMatches
 mod WholePressures
 mod Granting

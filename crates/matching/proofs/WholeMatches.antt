@@ -1,5 +1,5 @@
 -- The lagged sums of the path arithmetic, read as signed, are those over the whole numbers: these are within half the modulus.
-use Rattle.std.proofs.Common.{◌≡◌, ℕ, suc, ◌+◌, ◌-◌, ◌*◌, ◌%◌, ◌<◌, ◌≤◌, Bool, true, false, cond, ltb, List, map, length, get_or, ℤ, pos, negsuc, ◌+ℤ◌, ◌-ℤ◌, ◌*ℤ◌, neg_ℤ, nat_abs, refl, ap, ◌∙◌, add-zero, mod-lt, arith, lit<, w64, SFits}
+use Rattle.std.proofs.Common.{◌≡◌, ℕ, suc, ◌+◌, ◌-◌, ◌*◌, ◌%◌, ◌<◌, ◌≤◌, List, map, length, get_or, ℤ, pos, negsuc, ◌+ℤ◌, ◌-ℤ◌, ◌*ℤ◌, neg_ℤ, nat_abs, refl, ap, ◌∙◌, add-zero, mod-lt, arith, lit<}
 use lib.IntN.{+ℤ_idl}
 use Rattle.std.specs.List.{range_with_len, AllByRecursion}
 use Rattle.std.proofs.lemmas.Nat.{mul-le}
@@ -46,17 +46,6 @@ signed_stands (negsuc n) near = let whole : modulus - suc n + suc n ≡ modulus 
 
 sampled_means : (x y : ℤ) → nat_abs x ≤ limit → nat_abs y ≤ limit → Means (sampled x y) (x, y)
 sampled_means x y p q = (signed_stands x p, signed_stands y q)
-
--- ---- what is read of an element fits, whatever it stands for
-part_fits : (u : ℕ) (t : Bool) → u < modulus → SFits w64 (cond t (pos u -ℤ pos modulus) (pos u))
-part_fits u true h = omega (arith, ints)
-part_fits u false h = omega (arith, ints)
-
-pub read_sum_fits : (a b : List Path) (lag : ℕ) → SFits w64 (read_sum a b lag).0
-unfolding read_sum
-read_sum_fits a b lag =
-    let u = (lagged paths a b lag).u % modulus in
-    part_fits u (ltb half u) (mod-lt (lagged paths a b lag).u above)
 
 -- ---- the sizes of pairs
 abbrev most : ℕ
@@ -134,7 +123,7 @@ module _ (a b : List (ℤ × ℤ)) (same : length b ≡ length a) (few : length 
       (read_signed modulus half (r.u % modulus) (match_at a b lag).0 refl (mod-lt r.u above) near.0 (stands_reduced modulus above r.u (match_at a b lag).0 means.0))
       (read_signed modulus half (r.v % modulus) (match_at a b lag).1 refl (mod-lt r.v above) near.1 (stands_reduced modulus above r.v (match_at a b lag).1 means.1))
 
-  -- and so are the lag and the list that follow from them
+  -- and so is the list of them
   module _ (xs ys : List Path) (some : 0 < length a) (left : xs ≡ entered_conj a) (right : ys ≡ entered b) where
     reads : (lag : ℕ) → read_sum xs ys lag ≡ match_at a b lag
     reads lag = rw (left, right) (read_match lag some)
@@ -142,13 +131,15 @@ module _ (a b : List (ℤ × ℤ)) (same : length b ≡ length a) (few : length 
     long : length xs ≡ length a
     long = ap length left ∙ length-map a (λ p. sampled p.0 (neg_ℤ p.1))
 
-    pub best_match : best_first (read_sum xs ys) (length xs) ≡ best_first (match_at a b) (length a)
-    best_match =
-        ap (best_first (read_sum xs ys)) long
-        ∙ best_same (λ k. (read_sum xs ys k).0) (λ k. (match_at a b k).0) (length a) (λ k h. ap (λ z. z.0) (reads k))
-
     pub all_matches : map (read_sum xs ys) (range_with_len 0 (length xs)) ≡ matches a b
     all_matches =
         ap (λ n. map (read_sum xs ys) (range_with_len 0 n)) long
         ∙ fill_by_all (match_at a b) (map (read_sum xs ys) (range_with_len 0 (length a))) (length a) origin (length-map-range_with_len (read_sum xs ys) 0 (length a))
         (λ k h. get_or-map-range_with_len (read_sum xs ys) 0 (length a) k k origin h (omega arith) ∙ reads k)
+
+-- the best of a list of matches
+pub best_listed : (a b out : List (ℤ × ℤ)) → out ≡ matches a b → best_first (λ lag. get_or out lag origin) (length out) ≡ best_first (match_at a b) (length a)
+best_listed a b out is =
+    ap (best_first (λ lag. get_or out lag origin)) (ap length is ∙ length-map-range_with_len (match_at a b) 0 (length a))
+    ∙ best_same (λ k. (get_or out k origin).0) (λ k. (match_at a b k).0) (length a)
+    (λ k h. ap (λ o. (get_or o k origin).0) is ∙ ap (λ z. z.0) (get_or-map-range_with_len (match_at a b) 0 (length a) k k origin h (omega arith)))

@@ -24,11 +24,6 @@ sum_means x y n k p q = mod-mod (x.word + y.word) modulus ∙ same_sum modulus x
 product_means : (x y : Pressure) (n k : ℕ) → Means x n → Means y k → Means (pressures.product x y) (n * k)
 product_means x y n k p q = mod-mod (x.word * y.word) modulus ∙ same_product modulus x.word n y.word k p q
 
--- the sum of a lag, as it is read
-pub pressure_read : (a b : List Pressure) (lag : ℕ) (x : Pressure) (n : ℕ) → x ≡ lagged pressures a b lag → n ≡ x.word % modulus → n ≡ read_pressures a b lag
-unfolding read_pressures
-pressure_read a b lag x n sum read = read ∙ ap (λ (y : Pressure). y.word % modulus) sum
-
 -- two lists of pressures within limits, of one length
 module _ (p q : List ℕ) (same : length q ≡ length p) (few : length p ≤ most_samples) (low_p : AllByRecursion (λ u. u ≤ limit) p) (low_q : AllByRecursion (λ u. u ≤ limit) q) where
   low : (us : List ℕ) → AllByRecursion (λ u. u ≤ limit) us → (t : ℕ) → get_or us t 0 ≤ limit

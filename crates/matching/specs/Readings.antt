@@ -1,5 +1,6 @@
 -- The same sums in an arithmetic, and what they are read as.
-use Rattle.std.specs.Prelude.{◌≡◌, ℕ, ◌+◌, ◌/◌, ◌%◌, ◌<◌, ◌≤◌, cond, List, map, length, ℤ, pos, ◌-ℤ◌, neg_ℤ, ◌==◌, nat_lt, slice_index_or}
+use Rattle.std.specs.Prelude.{◌≡◌, ℕ, ◌+◌, ◌/◌, ◌%◌, ◌<◌, ◌≤◌, cond, List, map, length, ℤ, pos, ◌-ℤ◌, neg_ℤ, nat_lt, slice_index_or}
+use Rattle.std.specs.List.{fold}
 use Rattle.arithmetic.specs.Meaning.{Meaning}
 use Rattle.arithmetic.specs.Series.{series}
 use Rattle.path.specs.declared.Path.{Path}
@@ -14,13 +15,9 @@ pub record Paired {A : Type 0} (a b : List A) (lag : ℕ) : Type 0 where
   pub same : length b ≡ length a
   pub few : length a ≤ most_samples
 
--- the place after `at` on a circle of n places
-abbrev pub next_place : ℕ → ℕ → ℕ
-next_place n at = cond (at + 1 == n) 0 (at + 1)
-
--- the product of sample t of a and the sample at `at` of b
-abbrev pub product_at : {A R : Type 0} → Meaning A R → List A → List A → ℕ → ℕ → A
-product_at m a b t at = m.product (slice_index_or a t m.zero) (slice_index_or b at m.zero)
+-- a sum with the product of each pair added, in order
+abbrev pub added : {A R : Type 0} → Meaning A R → A → List (A × A) → A
+added m sum pairs = fold (λ x p. m.sum x (m.product p.0 p.1)) sum pairs
 
 -- the product that sample t gives to the sum of a lag
 abbrev pub lag_term : {A R : Type 0} → Meaning A R → List A → List A → ℕ → ℕ → A

@@ -1,46 +1,28 @@
 // The lagged sum, in any arithmetic.
 ghost use Rattle.std.specs.Prelude.{◌≡◌, ◌<◌, length};
-ghost use Rattle.matching.specs.Readings.{Paired, next_place, product_at, lag_term, lagged};
+ghost use Rattle.std.specs.List.{zip};
+ghost use Rattle.matching.specs.Readings.{Paired, added, lagged};
 
 use arithmetic::Arithmetic;
 
-// The place after `at` on a circle of n places, with no division.
-fn onward(at: usize, n: usize) -> usize
-    requires { at < n }
-    ensures answer { result ≡ next_place n at }
+// Adds the product of each two that meet to a sum, in order.
+fn add_products<X: Arithmetic>(sum: X, xs: &[X], ys: &[X]) -> X
+    ensures answer { result ≡ added X.Arithmetic.meaning sum (zip xs.now ys.now) }
 {
-    if at + 1 == n { 0 } else { at + 1 }
+    xs.iter()
+        .zip(ys)
+        .fold(sum, |sum, (x, y)| sum.sum(x.product(*y)))
 }
 
-// What sample `t` of `a` and the one that it meets give.
-fn term<X: Arithmetic>(a: &[X], b: &[X], lag: usize, t: usize) -> X
-    requires paired { Paired a.now b.now lag }
-    requires there { t < length a.now }
-    ensures answer { result ≡ lag_term X.Arithmetic.meaning a.now b.now lag t }
-{
-    a[t].product(b[(t + lag) % a.len()])
-}
-
-// What sample `t` of `a` and the sample at `at` of `b` give.
-fn met<X: Arithmetic>(a: &[X], b: &[X], t: usize, at: usize) -> X
-    requires paired { Paired a.now b.now at }
-    requires there { t < length a.now }
-    ensures answer { result ≡ product_at X.Arithmetic.meaning a.now b.now t at }
-{
-    a[t].product(b[at])
-}
-
-// The sum over t of a_t times b at (t + lag) mod N.
+// The sum over t of a_t times b at (t + lag) mod N: first what is met up to the end of b, and then from its front.
+// That the two are paired is asked by each function on them: a struct of both would owe it at each of its makers, as the calls do now.
 pub(crate) fn lagged_sum<X: Arithmetic>(a: &[X], b: &[X], lag: usize) -> X
     requires paired { Paired a.now b.now lag }
     ensures answer { result ≡ lagged X.Arithmetic.meaning a.now b.now lag }
 {
-    let n = a.len();
-    let mut at = lag;
-    let mut sum = term(a, b, lag, 0);
-    for t in 1..n {
-        at = onward(at, n);
-        sum = sum.sum(met(a, b, t, at));
-    }
-    sum
+    let (early, late) = a.split_at(a.len() - lag);
+    let (front, rest) = b.split_at(lag);
+    let first = early[0].product(rest[0]);
+    let sum = add_products(first, &early[1..], &rest[1..]);
+    add_products(sum, late, front)
 }

@@ -1,6 +1,7 @@
 // Matching two strokes: their sums at every lag, and the lags at which they agree best.
 #![tactic(auto)]
 
+mod choosing;
 mod lagged;
 mod matched;
 mod paths;

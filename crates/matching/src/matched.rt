@@ -2,17 +2,16 @@
 ghost use Rattle.std.specs.Prelude.{◌≡◌, length, is_ok, IfOk, if◌then◌else◌, Ok};
 ghost use Rattle.stroke.specs.Contents.{Sound};
 ghost use Rattle.writing.specs.Lending.{held};
-ghost use Rattle.spectrum.specs.Granted.{divided};
 ghost use Rattle.matching.specs.Lags.{matches};
 ghost use Rattle.matching.specs.Worked.{Worked};
 ghost use Rattle.matching.specs.Matched.{spans, lengths, limits, granted, pressure_lag, matched, BestLags};
 
 use crate::paths::match_paths;
 use crate::pressures::match_pressures;
-use arithmetic::Arithmetic;
 use path::Path;
 use pressure::Pressure;
 use refusal::Fault;
+use spectrum::divides;
 use writing::Lent;
 
 // The lags at which two strokes agree best.
@@ -21,17 +20,6 @@ pub struct Match {
     pub lag: usize,
     // None where either stroke has no pressures.
     pub pressure: Option<usize>,
-}
-
-// Refuses a length that does not divide the span.
-fn divides<X: Arithmetic>(n: usize) -> Result<(), Fault>
-    ensures answer { result ≡ divided X.Arithmetic.meaning.span n }
-{
-    if n > 0 && X::span() as usize % n == 0 {
-        Ok(())
-    } else {
-        Err(Fault::Span(n))
-    }
 }
 
 fn spans(a: &Lent<'_>, b: &Lent<'_>) -> Result<(), Fault>

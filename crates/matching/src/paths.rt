@@ -1,13 +1,15 @@
 // The matches of two paths: lagged sums in the path arithmetic, read as whole numbers.
-ghost use Rattle.std.specs.Prelude.{◌≡◌, ◌≤◌, map, length, take, neg_ℤ, int_lt, unsigned_abs};
-ghost use Rattle.std.specs.List.{range_with_len, AllByRecursion};
-ghost use Rattle.stroke.specs.Contents.{limit, most_samples, Near};
+ghost use Rattle.std.specs.Prelude.{◌≡◌, ◌<◌, ◌≤◌, map, length, neg_ℤ, slice_index_or};
+ghost use Rattle.std.specs.List.{range_with_len, AllByRecursion, AllZip};
+ghost use Rattle.stroke.specs.Contents.{most_samples, Near};
 ghost use Rattle.path.specs.Paths.{sampled};
-ghost use Rattle.matching.specs.Lags.{match_at, matches, best_first};
-ghost use Rattle.matching.specs.Readings.{Paired, signed_part, signed_parts, read_sum, entered, entered_conj};
+ghost use Rattle.matching.specs.Lags.{origin, match_at, matches, best_first};
+ghost use Rattle.matching.specs.Readings.{Paired, signed_part, signed_parts, read_sum};
 
+use crate::choosing::first_best;
 use crate::lagged::lagged_sum;
 use arithmetic::Arithmetic;
+use arrayvec::ArrayVec;
 use path::{MODULUS, Path};
 use stroke::MOST_SAMPLES;
 
@@ -32,63 +34,50 @@ fn signed_parts(r: Path) -> (i64, i64)
     (signed_part(u), signed_part(v))
 }
 
-// Each sample of a path as an element, in front.
-fn elements(path: &[(i16, i16)]) -> [Path; MOST_SAMPLES]
-    requires few { length path.now ≤ most_samples }
-    ensures answer { take (length path.now) result ≡ entered path.now }
-{
-    let mut out = [Path { u: 0, v: 0 }; MOST_SAMPLES];
-    for i in 0..path.len() {
-        let (x, y) = path[i];
-        out[i] = Path::sample(x, y);
-    }
-    out
-}
-
 // A sample's conjugate as an element.
-fn conjugate(x: i16, y: i16) -> Path
-    requires near { unsigned_abs y ≤ limit }
-    ensures answer { result ≡ sampled x (neg_ℤ y) }
+fn conjugate(sample: (i16, i16)) -> Path
+    requires near { Near sample }
+    ensures answer { result ≡ sampled sample.0 (neg_ℤ sample.1) }
 {
+    let (x, y) = sample;
     Path::sample(x, -y)
 }
 
-// Each sample's conjugate, in front.
-fn conjugates(path: &[(i16, i16)]) -> [Path; MOST_SAMPLES]
+// What `enter` makes of each sample.
+// Pressures have a loop of their own: in an ArrayVec of a type parameter each push owes that its room fits in memory, which is not proved.
+fn elements<F: Fn((i16, i16)) -> Path>(
+    path: &[(i16, i16)],
+    enter: F,
+) -> ArrayVec<Path, MOST_SAMPLES>
     requires few { length path.now ≤ most_samples }
-    requires near { AllByRecursion Near path.now }
-    ensures answer { take (length path.now) result ≡ entered_conj path.now }
+    requires callable { AllByRecursion (F.pre enter) path.now }
+    ensures each { AllZip (F.post enter) path.now result.items }
 {
-    let mut out = [Path { u: 0, v: 0 }; MOST_SAMPLES];
-    for i in 0..path.len() {
-        let (x, y) = path[i];
-        out[i] = conjugate(x, y);
+    let mut elements = ArrayVec::new();
+    for sample in path {
+        elements.push(enter(*sample));
     }
-    out
+    elements
 }
 
-// A later lag is better only if its first part is larger.
-fn beats(later: i64, best: i64) -> bool
-    ensures answer { result ≡ int_lt best later }
-{
-    later > best
-}
-
-// The sum of every lag, read as whole numbers, into `out`; answers the least lag of the largest first part.
-fn every_sum(a: &[Path], b: &[Path], out: &mut [(i64, i64)]) -> usize
+// The sum of every lag, read as whole numbers, into `out`.
+fn every_sum(a: &[Path], b: &[Path], out: &mut [(i64, i64)])
     requires paired { Paired a.now b.now 0 }
     requires whole { length out.old ≡ length a.now }
-    ensures answer { result ≡ best_first (read_sum a.now b.now) (length a.now) }
     ensures after { out.new ≡ map (read_sum a.now b.now) (range_with_len 0 (length a.now)) }
 {
-    let mut best = 0;
+    // After `iter_mut().enumerate()` nothing would be known of the sums.
     for lag in 0..a.len() {
         out[lag] = signed_parts(lagged_sum(a, b, lag));
-        if beats(out[lag].0, out[best].0) {
-            best = lag;
-        }
     }
-    best
+}
+
+// The least lag of the largest first part.
+fn best_lag(sums: &[(i64, i64)]) -> usize
+    requires some { 0 < length sums.now }
+    ensures answer { result ≡ best_first (λ lag. slice_index_or sums.now lag origin) (length sums.now) }
+{
+    first_best(sums.len(), |lag| sums[lag].0)
 }
 
 // The match of every lag into `out`; answers the least lag of the largest first part.
@@ -99,8 +88,8 @@ pub(crate) fn match_paths(a: &[(i16, i16)], b: &[(i16, i16)], out: &mut [(i64, i
     ensures answer { result ≡ best_first (match_at a.now b.now) (length a.now) }
     ensures after { out.new ≡ matches a.now b.now }
 {
-    let n = a.len();
-    let xs = conjugates(a);
-    let ys = elements(b);
-    every_sum(&xs[0..n], &ys[0..n], out)
+    let xs = elements(a, conjugate);
+    let ys = elements(b, |(x, y)| Path::sample(x, y));
+    every_sum(xs.as_slice(), ys.as_slice(), out);
+    best_lag(out)
 }

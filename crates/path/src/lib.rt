@@ -23,7 +23,7 @@ const SPAN_INVERSE: u32 = 477684622;
 type Residue = residues::Residue<MODULUS>;
 
 // Any two words are an element: its value is what they leave by the modulus.
-#[derive(Clone, Copy, Debug, PartialEq, Eq)]
+#[derive(Clone, Copy, Debug, Default, PartialEq, Eq)]
 #[repr(C)]
 pub struct Path {
     pub u: u32,

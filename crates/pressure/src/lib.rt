@@ -22,7 +22,7 @@ const SPAN_INVERSE: u32 = 2013003777;
 type Residue = residues::Residue<MODULUS>;
 
 // Any word is an element: its value is what it leaves by the modulus.
-#[derive(Clone, Copy, Debug, PartialEq, Eq)]
+#[derive(Clone, Copy, Debug, Default, PartialEq, Eq)]
 #[repr(C)]
 pub struct Pressure {
     pub word: u32,

@@ -1,8 +1,7 @@
-use Rattle.std.proofs.Common.{◌≡◌, length}
-use Rattle.path.specs.Paths.{sampled}
-use Rattle.stroke.specs.Contents.{most_samples}
-use Rattle.matching.proofs.Entering.{Entered}
+use Rattle.std.proofs.Common.{◌≡◌, length, take}
+use Rattle.std.specs.List.{AllZip}
 use Rattle.matching.proofs.paths.elements.Given as goal
 
-abbrev pub invariant-loop-i : goal.invariant-loop-i
-invariant-loop-i l = (length l.out ≡ most_samples) × Entered (λ p. sampled p.0 p.1) l.path l.i l.out
+-- what was made of the samples so far
+abbrev pub invariant-loop-sample : goal.invariant-loop-sample
+invariant-loop-sample g l = (length l.elements.items ≡ l.sample-index) × AllZip (goal.F-post g l.enter) (take l.sample-index l.path) l.elements.items

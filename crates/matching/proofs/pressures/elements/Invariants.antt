@@ -1,8 +1,6 @@
-use Rattle.std.proofs.Common.{◌≡◌, length}
-use Rattle.pressure.specs.Pressures.{counted}
-use Rattle.stroke.specs.Contents.{most_samples}
-use Rattle.matching.proofs.Entering.{Entered}
+use Rattle.std.proofs.Common.{◌≡◌, take}
+use Rattle.matching.specs.Readings.{entered_pressures}
 use Rattle.matching.proofs.pressures.elements.Given as goal
 
-abbrev pub invariant-loop-i : goal.invariant-loop-i
-invariant-loop-i l = (length l.out ≡ most_samples) × Entered counted l.counts l.i l.out
+abbrev pub invariant-loop-count : goal.invariant-loop-count
+invariant-loop-count l = l.elements.items ≡ entered_pressures (take l.count-index l.counts)
