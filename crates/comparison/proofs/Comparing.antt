@@ -1,5 +1,5 @@
 -- What is answered of two files, and of two strokes that were copied.
-use Rattle.std.proofs.Common.{◌≡◌, ℕ, ◌-◌, ◌<◌, List, ◌++◌, length, get_or, take, ℤ, IsErrAnd, IfOk, Ok, Err, Result, sym, ap, ◌∙◌, subst, arith}
+use Rattle.std.proofs.Common.{◌≡◌, ℕ, ◌<◌, ◌≤◌, List, ◌++◌, length, get_or, take, ℤ, IsErrAnd, IfOk, Ok, Err, Result, sym, ap, ◌∙◌, subst, arith}
 use Rattle.std.specs.Result.{result_map_both}
 use Rattle.std.proofs.lemmas.List.FromFn.{length-map-range_with_len, get_or-map-range_with_len}
 use Rattle.std.proofs.lemmas.List.{get_or_append_left, length-take-le}
@@ -7,7 +7,7 @@ use Rattle.std.proofs.lemmas.Result.{IfOk-weaker}
 use Rattle.refusal.specs.declared.Fault.{Fault}
 use Rattle.refusal.specs.declared.Fault.TheVariants.{File}
 use Rattle.stroke.specs.declared.fault.FileFault.{FileFault}
-use Rattle.stroke.specs.Contents.{Contents, Sound, most_samples}
+use Rattle.stroke.specs.Contents.{Contents, most_samples}
 use Rattle.stroke.specs.Reading.{decode}
 use Rattle.matching.specs.declared.matched.Match.{Match}
 use Rattle.matching.specs.Lags.{origin, match_at, matches}
@@ -38,9 +38,9 @@ module _ (bs cs : List ℕ) where
     both_best b is r best =
         IfOk-weaker r (Best a b) (BestOf bs cs) (λ c h. record { first = a; second = b; read_first = first; read_second = is; best = h }) best
 
--- a part of a list for the longest stroke, as long as a stroke
-pub part_whole : (c : Contents) → Sound c → (n : ℕ) (sums : List (ℤ × ℤ)) → n ≡ length c.path → length sums ≡ most_samples → length (take (n - 0) sums) ≡ length c.path
-part_whole c h n sums count long = length-take-le (n - 0) sums (omega (arith, h.most)) ∙ omega arith
+-- the front of a list for the longest stroke
+pub front_long : (n len : ℕ) (sums : List (ℤ × ℤ)) → n ≡ len → n ≤ most_samples → length sums ≡ most_samples → length (take n sums) ≡ len
+front_long n len sums is few long = length-take-le n sums (omega arith) ∙ is
 
 -- the strokes x and y are lent in place of a and b, with room for as many pairs
 module _ (a b x y : Contents) (room : ℕ) (left : x ≡ a) (right : y ≡ b) (whole : room ≡ length a.path) where

@@ -1,13 +1,12 @@
 // The comparison of the strokes in two files.
 ghost use Rattle.std.specs.Prelude.{◌≡◌, IfOk};
-ghost use Rattle.stroke.specs.Contents.{Sound};
-ghost use Rattle.stroke.specs.Reading.{contents};
+ghost use Rattle.comparison.specs.Copied.{copied};
 ghost use Rattle.comparison.specs.Compared.{compared_strokes, compared, Best, BestOf};
 
 use crate::samples::Samples;
 use matching::match_strokes;
 use refusal::Fault;
-use stroke::{MOST_SAMPLES, Stroke};
+use stroke::MOST_SAMPLES;
 
 // The lag at which two paths agree best and the pair R there; and the pressures' best lag.
 #[derive(Clone, Copy, Debug, PartialEq, Eq)]
@@ -18,16 +17,13 @@ pub struct Comparison {
     pub pressure: Option<usize>,
 }
 
-fn compare_strokes(a: &Stroke<'_>, b: &Stroke<'_>) -> Result<Comparison, Fault>
-    requires sound { (Sound (contents a.now)) × (Sound (contents b.now)) }
-    ensures answer { result ≡ compared_strokes (contents a.now) (contents b.now) }
-    ensures best { IfOk result (Best (contents a.now) (contents b.now)) }
+fn compare_strokes(a: &Samples, b: &Samples) -> Result<Comparison, Fault>
+    ensures answer { result ≡ compared_strokes (copied a.now) (copied b.now) }
+    ensures best { IfOk result (Best (copied a.now) (copied b.now)) }
 {
-    let first = Samples::of(a);
-    let second = Samples::of(b);
-    let n = first.count;
+    // Room for the sums of every lag lies on the stack: no heap is taken to compare.
     let mut sums = [(0, 0); MOST_SAMPLES];
-    let found = match_strokes(&first.lent(), &second.lent(), &mut sums[0..n])?;
+    let found = match_strokes(&a.lent(), &b.lent(), &mut sums[..a.path.len()])?;
     Ok(Comparison {
         lag: found.lag,
         sum: sums[found.lag],
@@ -41,7 +37,7 @@ pub fn compare_files(first: &[u8], second: &[u8]) -> Result<Comparison, Fault>
     ensures answer { result ≡ compared first.now second.now }
     ensures best { IfOk result (BestOf first.now second.now) }
 {
-    let a = stroke::read(first)?;
-    let b = stroke::read(second)?;
+    let a = Samples::read(first)?;
+    let b = Samples::read(second)?;
     compare_strokes(&a, &b)
 }

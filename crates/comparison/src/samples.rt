@@ -1,72 +1,64 @@
-// The samples of a stroke, copied out of the bytes that it was read from.
-ghost use Rattle.std.specs.Prelude.{◌≡◌, ◌≤◌, length, take};
-ghost use Rattle.stroke.specs.Contents.{most_samples, pressures, Sound};
+// The samples of a stroke, copied out of the file that it is read from.
+ghost use Rattle.std.specs.Prelude.{◌≡◌, ◌≤◌, length, Ok, Err, MatchResult};
+ghost use Rattle.stroke.specs.Contents.{most_samples, pressures};
 ghost use Rattle.writing.specs.Lending.{held};
-ghost use Rattle.stroke.specs.Reading.{contents};
-ghost use Rattle.comparison.specs.Copied.{copied};
+ghost use Rattle.stroke.specs.Reading.{contents, decode};
+ghost use Rattle.comparison.specs.Copied.{copied, copied_pressure};
 
-use stroke::{MOST_SAMPLES, Stroke};
+use arrayvec::ArrayVec;
+use stroke::{FileFault, MOST_SAMPLES, Stroke};
 use writing::Lent;
 
-// The lists hold `count` samples, in front.
 #[derive(Drop)]
 pub(crate) struct Samples {
-    pub(crate) count: usize,
-    pressed: bool,
-    path: [(i16, i16); MOST_SAMPLES],
-    pressure: [u16; MOST_SAMPLES],
+    pub(crate) path: ArrayVec<(i16, i16), MOST_SAMPLES>,
+    pressure: Option<ArrayVec<u16, MOST_SAMPLES>>,
 }
 
-fn path_of(stroke: &Stroke<'_>) -> [(i16, i16); MOST_SAMPLES]
-    requires sound { Sound (contents stroke.now) }
-    ensures answer { take (length (contents stroke.now).path) result ≡ (contents stroke.now).path }
+fn path_of(stroke: &Stroke<'_>) -> ArrayVec<(i16, i16), MOST_SAMPLES>
+    requires few { length (contents stroke.now).path ≤ most_samples }
+    ensures answer { result.items ≡ (contents stroke.now).path }
 {
-    let mut out = [(0, 0); MOST_SAMPLES];
-    for i in 0..stroke.len() {
-        out[i] = stroke.path(i).unwrap_or((0, 0));
+    let mut path = ArrayVec::new();
+    while let Some(sample) = stroke.path(path.len()) {
+        path.push(sample);
     }
-    out
+    path
 }
 
-// Zeros where there are none.
-fn pressures_of(stroke: &Stroke<'_>) -> [u16; MOST_SAMPLES]
-    requires sound { Sound (contents stroke.now) }
-    ensures answer { take (length (pressures (contents stroke.now))) result ≡ pressures (contents stroke.now) }
+// A loop of its own: in an ArrayVec of a type parameter each push owes that its room fits in memory, which is not proved.
+fn pressure_of(stroke: &Stroke<'_>) -> Option<ArrayVec<u16, MOST_SAMPLES>>
+    requires few { length (pressures (contents stroke.now)) ≤ most_samples }
+    ensures answer { copied_pressure result ≡ (contents stroke.now).pressure }
 {
-    let mut out = [0; MOST_SAMPLES];
-    for i in 0..stroke.len() {
-        out[i] = stroke.pressure(i).unwrap_or(0);
+    if !stroke.has_pressure() {
+        return None;
     }
-    out
+    let mut pressures = ArrayVec::new();
+    while let Some(pressure) = stroke.pressure(pressures.len()) {
+        pressures.push(pressure);
+    }
+    Some(pressures)
 }
 
 impl Samples {
-    pub(crate) fn of(stroke: &Stroke<'_>) -> Samples
-        requires sound { Sound (contents stroke.now) }
-        ensures answer { copied result ≡ contents stroke.now }
-        ensures count { result.count ≡ length (contents stroke.now).path }
+    // Those of the stroke that is read in a file.
+    pub(crate) fn read(file: &[u8]) -> Result<Samples, FileFault>
+        ensures answer { MatchResult result (λ s. decode file.now ≡ Ok (copied s)) (λ e. decode file.now ≡ Err e) }
     {
-        Samples {
-            count: stroke.len(),
-            pressed: stroke.has_pressure(),
-            path: path_of(stroke),
-            pressure: pressures_of(stroke),
-        }
+        let stroke = stroke::read(file)?;
+        Ok(Samples {
+            path: path_of(&stroke),
+            pressure: pressure_of(&stroke),
+        })
     }
 
     pub(crate) fn lent(&self) -> Lent<'_>
-        requires few { self.now.count ≤ most_samples }
         ensures answer { held result ≡ copied self.now }
     {
-        let n = self.count;
-        let pressure = if self.pressed {
-            Some(&self.pressure[0..n])
-        } else {
-            None
-        };
         Lent {
-            path: &self.path[0..n],
-            pressure,
+            path: self.path.as_slice(),
+            pressure: self.pressure.as_ref().map(|pressures| pressures.as_slice()),
         }
     }
 }
