@@ -1,6 +1,5 @@
 -- Lent strokes: their samples as tuples, and why a stroke that is too long is refused.
-use Rattle.std.proofs.Common.{◌≡◌, ℕ, ◌+◌, ◌<◌, ◌≤◌, Bool, true, false, cond, not, ◌||◌, eqb, ltb, ◌⊎◌, List, [], ◌∷◌, ◌++◌, map, length, get_or, take, set, Ok, Err, Result, sym, refl, ap, ◌∙◌, inl, inr, arith}
-use Rattle.std.proofs.lemmas.List.{take_all, take_more_set, map_more}
+use Rattle.std.proofs.Common.{◌≡◌, ℕ, ◌<◌, ◌≤◌, Bool, true, false, cond, not, ◌||◌, eqb, ltb, ◌⊎◌, List, length, Ok, Err, Result, sym, refl, ap, inl, inr, arith}
 use Rattle.std.proofs.lemmas.Bool.Decides.{nat_tests}
 use Rattle.std.specs.Result.{result_map_both}
 use Rattle.writing.specs.declared.lent.LentFault.{LentFault}
@@ -10,15 +9,6 @@ use Rattle.writing.specs.Lending.{as_many, sized}
 use Rattle.writing.specs.Written.{written, after_writing}
 use Rattle.refusal.specs.declared.Fault.TheVariants.{Lent}
 use Rattle.handover.specs.Lending.{writing}
-
--- a loop that writes f x for each x of a list
-module _ {X Y : Type 0} (f : X → Y) (xs : List X) where
-  pub copied_more : (i : ℕ) (out : List Y) (d : X) (y : Y) → i < length xs → i < length out → y ≡ f (get_or xs i d) → take i out ≡ map f (take i xs) → take (i + 1) (set out i y) ≡ map f (take (i + 1) xs)
-  copied_more i out d y here room is so_far =
-      take_more_set out i y room ∙ ap (λ ys. ys ++ y ∷ []) so_far ∙ ap (λ z. map f (take i xs) ++ z ∷ []) is ∙ sym (map_more f xs i d here)
-
-  pub copied_all : (i : ℕ) (out : List Y) → i ≡ length xs → take i out ≡ map f (take i xs) → take (length xs) out ≡ map f xs
-  copied_all i out end so_far = ap (λ n. take n out) (sym end) ∙ so_far ∙ ap (map f) (take_all i xs (omega arith))
 
 pub sized_long : (c : Contents) → most_samples < length c.path → sized c ≡ Err Length
 sized_long c long = grind (arith, nat_tests)

@@ -1,4 +1,4 @@
-pub mod Copying
+pub mod Copied
 pub mod Files
 pub mod Lent
 pub mod Matching

@@ -17,9 +17,6 @@ use Rattle.crossing.specs.Answers.{status_of, answer_or, where_granted}
 use Rattle.handover.specs.Matching.{sum, lags, Matches}
 use Rattle.handover.proofs.Lent.{sized_few, sized_either}
 
-abbrev refused : Fault → Result (Unit {0}) Fault
-refused f = Err f
-
 -- refused for a length, by either of the two faults that say so
 abbrev ForLength : Result (Unit {0}) Fault → Type 0
 ForLength r = (r ≡ Err Length) ⊎ (r ≡ Err (Lent LentLength))
@@ -60,13 +57,13 @@ module _ (a b : Contents) (best : Lags) (out : List Sum) (long : (most_samples <
   refusal : RefusedAs (matched a b (length out)) (result_and (spans a b) (Err Length))
   refusal = refused_as (spans a b) (lengths a b (length out)) _ (for_length a b (length out) long)
 
-  pub long_refused : (f : Fault) (status : Status) → result_and (spans a b) (refused Length) ≡ refused f → status ≡ status_of (refused f) → Matches a b best out status best out
-  long_refused f status is told =
-      let r = refusal in
+  pub long_refused : (r : Result (Unit {0}) Fault) (status : Status) → r ≡ result_and (spans a b) (Err Length) → status ≡ status_of r → Matches a b best out status best out
+  long_refused r status is told =
+      let by = refusal in
       record {
-        status_is = told ∙ sym (ap status_of is) ∙ sym r.alike;
-        best_is = ap (λ x. answer_or best (result_map_both lags (λ e. e) x)) (sym r.is);
-        out_is = ap (λ x. where_granted x (map sum (matches a.path b.path)) out) (sym r.is);
+        status_is = told ∙ ap status_of is ∙ sym by.alike;
+        best_is = ap (λ x. answer_or best (result_map_both lags (λ e. e) x)) (sym by.is);
+        out_is = ap (λ x. where_granted x (map sum (matches a.path b.path)) out) (sym by.is);
       }
 
 -- the numbers of a match have its status and its grant

@@ -1,6 +1,7 @@
 // Strokes that are handed over in lent lists of numbers: read from files, written as files, and matched.
 #![tactic(auto)]
 
+mod copying;
 mod lending;
 mod matches;
 mod reading;

@@ -1,5 +1,5 @@
 // The match of two strokes in lent lists.
-ghost use Rattle.std.specs.Prelude.{◌≡◌, ◌≤◌, ◌&&◌, map, length, is_some, Err};
+ghost use Rattle.std.specs.Prelude.{◌≡◌, ◌≤◌, ◌&&◌, map, length, is_some};
 ghost use Rattle.std.specs.Result.{result_map_both};
 ghost use Rattle.stroke.specs.Contents.{most_samples};
 ghost use Rattle.matching.specs.Lags.{matches};
@@ -10,12 +10,12 @@ ghost use Rattle.handover.specs.Matching.{sum as sum_of, lags as lags_of, too_lo
 
 use crate::lending::{lent_over, tuples};
 use crate::reading::Counts;
-use arithmetic::Arithmetic;
 use crossing::{Status, answered, settled};
 use matching::Match;
 use path::Path;
 use pressure::Pressure;
 use refusal::Fault;
+use spectrum::divides;
 use stroke::MOST_SAMPLES;
 
 // The pair R of a lag, in whole counts.
@@ -35,43 +35,49 @@ pub struct Lags {
     pub pressure: usize,
 }
 
-fn best_lags(found: Match) -> Lags
-    ensures answer { result ≡ lags_of found }
-{
-    match found.pressure {
-        Some(pressure) => Lags {
+impl From<(i64, i64)> for Sum {
+    ghost use Rattle.std.specs.Prelude.{◌≡◌};
+    ghost use Rattle.handover.specs.Matching.{sum as sum_of};
+
+    ghost from_gives = { λ pair sum. sum ≡ sum_of pair };
+
+    fn from((x, y): (i64, i64)) -> Sum {
+        Sum { x, y }
+    }
+}
+
+impl From<Match> for Lags {
+    ghost use Rattle.std.specs.Prelude.{◌≡◌};
+    ghost use Rattle.handover.specs.Matching.{lags as lags_of};
+
+    ghost from_gives = { λ found best. best ≡ lags_of found };
+
+    fn from(found: Match) -> Lags {
+        Lags {
             path: found.lag,
-            pressed: 1,
-            pressure,
-        },
-        None => Lags {
-            path: found.lag,
-            pressed: 0,
-            pressure: 0,
-        },
+            pressed: usize::from(found.pressure.is_some()),
+            pressure: found.pressure.unwrap_or(0),
+        }
     }
 }
 
 // Why strokes are refused of which a list is longer than a stroke may be: by the length of the first, or for the list.
-fn over_long(n: usize, pressed: bool) -> Fault
-    ensures answer { too_long n pressed ≡ Err result }
+fn over_long(n: usize, pressed: bool) -> Result<(), Fault>
+    ensures answer { result ≡ too_long n pressed }
 {
-    if n == 0 || Path::span() as usize % n != 0 {
-        return Fault::Span(n);
+    divides::<Path>(n)?;
+    if pressed {
+        divides::<Pressure>(n)?;
     }
-    if pressed && Pressure::span() as usize % n != 0 {
-        return Fault::Span(n);
-    }
-    Fault::Length
+    Err(Fault::Length)
 }
 
 fn copy_sums(sums: &[(i64, i64)], out: &mut [Sum])
     requires { length out.old ≡ length sums.now }
     ensures after { out.new ≡ map sum_of sums.now }
 {
-    for i in 0..sums.len() {
-        let (x, y) = sums[i];
-        out[i] = Sum { x, y };
+    for (lag, sum) in sums.iter().enumerate() {
+        out[lag] = Sum::from(*sum);
     }
 }
 
@@ -103,19 +109,17 @@ fn match_into(
     ensures answer { result ≡ result_map_both lags_of (λ f. f) (matched (lent_stroke a.now p.now) (lent_stroke b.now q.now) (length out.old)) }
     ensures after { out.new ≡ where_granted result (map sum_of (matches (pairs a.now) (pairs b.now))) out.old }
 {
-    let n = a.len();
-    let m = b.len();
     let first = tuples(a);
     let second = tuples(b);
-    let found = match_tuples(&first[0..n], p, &second[0..m], q, sums)?;
+    let found = match_tuples(first.as_slice(), p, second.as_slice(), q, sums)?;
     copy_sums(sums, out);
-    Ok(best_lags(found))
+    Ok(Lags::from(found))
 }
 
 fn both_pressed(p: &[u16], q: &[u16]) -> bool
     ensures answer { result ≡ is_some (pressure_held p.now) && is_some (pressure_held q.now) }
 {
-    p.len() > 0 && q.len() > 0
+    !p.is_empty() && !q.is_empty()
 }
 
 // Matches two strokes: the sums of every lag go to `out`, and the best lags to `best`.
@@ -131,7 +135,7 @@ pub fn match_strokes(
 {
     let room = out.len();
     if a.len() > MOST_SAMPLES || b.len() > MOST_SAMPLES || room > MOST_SAMPLES {
-        return settled(Err(over_long(a.len(), both_pressed(p, q))));
+        return settled(over_long(a.len(), both_pressed(p, q)));
     }
     let mut sums = [(0, 0); MOST_SAMPLES];
     answered(match_into(a, p, b, q, &mut sums[0..room], out), best)

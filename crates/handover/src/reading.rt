@@ -1,16 +1,17 @@
 // Reading a stroke file: its samples and its pressures are copied into lent lists.
-ghost use Rattle.std.specs.Prelude.{◌≡◌, map, length, slice_index_or};
+ghost use Rattle.std.specs.Prelude.{◌≡◌, length};
 ghost use Rattle.std.specs.Result.{result_map_both};
 ghost use Rattle.stroke.specs.Contents.{pressures};
 ghost use Rattle.stroke.specs.Reading.{contents};
 ghost use Rattle.crossing.specs.Answers.{in_front};
-ghost use Rattle.handover.specs.Reading.{no_counts, path_counts, heading, read_in, Reads};
+ghost use Rattle.handover.specs.Reading.{path_counts, heading, read_in, Reads};
 
+use crate::copying::copy;
 use crossing::{Status, answered};
 use refusal::Fault;
 use stroke::Stroke;
 
-// A path sample in whole counts.
+// A path sample in whole counts, as it crosses to C.
 #[derive(Clone, Copy)]
 #[repr(C)]
 pub struct Counts {
@@ -18,7 +19,7 @@ pub struct Counts {
     pub y: i16,
 }
 
-// How many samples a stroke has, and how many pressures: as many, or none.
+// How many samples a stroke has, and how many pressures: as many, or none. A struct of numbers, as it crosses to C.
 #[derive(Clone, Copy)]
 #[repr(C)]
 pub struct Heading {
@@ -26,31 +27,14 @@ pub struct Heading {
     pub pressures: usize,
 }
 
-// The path sample `i`, and zeros past the last.
-fn counts_at(stroke: &Stroke<'_>, i: usize) -> Counts
-    ensures answer { result ≡ slice_index_or (path_counts (contents stroke.now)) i no_counts }
-{
-    match stroke.path(i) {
-        Some((x, y)) => Counts { x, y },
-        None => Counts { x: 0, y: 0 },
-    }
-}
+impl From<(i16, i16)> for Counts {
+    ghost use Rattle.std.specs.Prelude.{◌≡◌};
+    ghost use Rattle.handover.specs.Reading.{counts};
 
-fn copy_path(stroke: &Stroke<'_>, out: &mut [Counts])
-    requires { length out.old ≡ length (contents stroke.now).path }
-    ensures after { out.new ≡ path_counts (contents stroke.now) }
-{
-    for i in 0..out.len() {
-        out[i] = counts_at(stroke, i);
-    }
-}
+    ghost from_gives = { λ pair c. c ≡ counts pair };
 
-fn copy_pressures(stroke: &Stroke<'_>, out: &mut [u16])
-    requires { length out.old ≡ length (pressures (contents stroke.now)) }
-    ensures after { out.new ≡ pressures (contents stroke.now) }
-{
-    for i in 0..out.len() {
-        out[i] = stroke.pressure(i).unwrap_or(0);
+    fn from((x, y): (i16, i16)) -> Counts {
+        Counts { x, y }
     }
 }
 
@@ -77,8 +61,8 @@ fn read_into(bytes: &[u8], path: &mut [Counts], pressure: &mut [u16]) -> Result<
     if path.len() < samples || pressure.len() < pressures {
         return Err(Fault::Length);
     }
-    copy_path(&stroke, &mut path[0..samples]);
-    copy_pressures(&stroke, &mut pressure[0..pressures]);
+    copy(&mut path[0..samples], |i| stroke.path(i).map(Counts::from));
+    copy(&mut pressure[0..pressures], |i| stroke.pressure(i));
     Ok(Heading { samples, pressures })
 }
 

@@ -2,6 +2,6 @@ use Rattle.std.proofs.Common.{◌≡◌, map, take}
 use Rattle.handover.specs.Matching.{sum}
 use Rattle.handover.proofs.matches.copy_sums.Given as goal
 
--- the first i sums are copied
-abbrev pub invariant-loop-i : goal.invariant-loop-i
-invariant-loop-i l = take l.i l.out ≡ map sum (take l.i l.sums)
+-- the sums of the lags so far
+abbrev pub invariant-loop-lag : goal.invariant-loop-lag
+invariant-loop-lag l = take l.lag l.out ≡ map sum (take l.lag l.sums)

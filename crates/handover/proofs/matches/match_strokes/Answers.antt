@@ -19,7 +19,7 @@ returns-then-a-gt-MOST_SAMPLES c =
       | then-a-gt-MOST_SAMPLES-via-else-a-gt-MOST_SAMPLES+then-b-gt-MOST_SAMPLES w ↦ inr (inl (omega (arith, w.if-b-gt-MOST_SAMPLES.true)))
       | then-a-gt-MOST_SAMPLES-via-else-a-gt-MOST_SAMPLES+else-b-gt-MOST_SAMPLES+then-room-gt-MOST_SAMPLES w ↦ inr (inr (omega (arith, w.if-room-gt-MOST_SAMPLES.true)))
     ] in
-    let is = (λ i. too_long (first i) (sym c.both_pressed.ensures.answer i)) ∙ c.over_long.ensures.answer in
+    let is = c.over_long.ensures.answer ∙ (λ i. too_long (sym first i) (c.both_pressed.ensures.answer i)) in
     record { made = long_refused (lent_stroke a c.args.p.now) (lent_stroke b c.args.q.now) _ out long _ _ is c.settled.ensures.answer }
 
 pub returns : goal.returns

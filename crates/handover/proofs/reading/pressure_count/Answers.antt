@@ -1,5 +1,5 @@
 use Rattle.std.proofs.Common.{sym, ◌∙◌}
-use Rattle.handover.proofs.Copying.{as_many}
+use Rattle.handover.proofs.Copied.{as_many}
 use Rattle.handover.proofs.reading.pressure_count.Goals as goal
 
 pub returns-then-has_pressure : goal.returns-then-has_pressure
