@@ -1,5 +1,6 @@
 -- What a match comes to for C, also where a list is longer than a stroke may be.
-use Rattle.std.proofs.Common.{◌≡◌, ℕ, ◌<◌, ◌≤◌, cond, ◌&&◌, eqb, ◌⊎◌, List, map, length, Ok, Err, Result, sym, refl, ap, ◌∙◌, inl, inr, ⊎_elim, arith}
+use Rattle.std.proofs.Common.{◌≡◌, ℕ, ◌<◌, ◌≤◌, cond, ◌&&◌, eqb, ◌⊎◌, List, map, length, take, ℤ, Ok, Err, Result, sym, refl, ap, ◌∙◌, inl, inr, ⊎_elim, arith}
+use Rattle.std.proofs.lemmas.List.{length-take-le}
 use Rattle.std.proofs.lemmas.Bool.Decides.{nat_tests}
 use Rattle.std.specs.Result.{result_and, result_map_both}
 use Rattle.writing.specs.declared.lent.LentFault.TheVariants.{Length as LentLength}
@@ -84,3 +85,7 @@ short_matched a b best best' out out' r status is after told answer =
       best_is = answer ∙ ap (answer_or best) is;
       out_is = after ∙ ap (λ x. where_granted x new out) is ∙ same_grant s new out;
     }
+
+-- the front of a list for the longest stroke
+pub front_long : (n : ℕ) (sums : List (ℤ × ℤ)) → n ≤ most_samples → length sums ≡ most_samples → length (take n sums) ≡ n
+front_long n sums few long = length-take-le n sums (omega arith)

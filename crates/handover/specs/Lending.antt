@@ -6,6 +6,7 @@ use Rattle.writing.specs.Written.{written, after_writing}
 use Rattle.refusal.specs.declared.Fault.{Fault}
 use Rattle.refusal.specs.declared.Fault.TheVariants.{Lent}
 use Rattle.handover.specs.declared.reading.Counts.{Counts}
+use Rattle.handover.specs.declared.lending.Held.{Held}
 use Rattle.crossing.specs.declared.status.Status.{Status}
 use Rattle.crossing.specs.Answers.{status_of, answer_or}
 
@@ -21,6 +22,10 @@ stroke_held path pressure = record { path = path; pressure = pressure_held press
 
 abbrev pub lent_stroke : List Counts → List ℕ → Contents
 lent_stroke path pressure = stroke_held (pairs path) pressure
+
+-- what a stroke holds whose samples were copied
+abbrev pub kept : Held → Contents
+kept h = stroke_held h.path.items h.pressure.now
 
 -- the length of the file, or why it is not written
 abbrev pub writing : Contents → ℕ → Result ℕ Fault

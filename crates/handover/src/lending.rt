@@ -3,7 +3,7 @@ ghost use Rattle.std.specs.Prelude.{◌≡◌, ◌≤◌, length};
 ghost use Rattle.stroke.specs.Contents.{most_samples};
 ghost use Rattle.writing.specs.Lending.{held};
 ghost use Rattle.writing.specs.Written.{after_writing};
-ghost use Rattle.handover.specs.Lending.{pairs, stroke_held, lent_stroke, writing, Writes};
+ghost use Rattle.handover.specs.Lending.{kept, lent_stroke, writing, Writes};
 
 use crate::reading::Counts;
 use arrayvec::ArrayVec;
@@ -22,35 +22,36 @@ impl From<Counts> for (i16, i16) {
     }
 }
 
-// The samples as tuples, since no tuple crosses.
-pub(crate) fn tuples(path: &[Counts]) -> ArrayVec<(i16, i16), MOST_SAMPLES>
-    requires few { length path.now ≤ most_samples }
-    ensures answer { result.items ≡ pairs path.now }
-{
-    let mut tuples = ArrayVec::new();
-    for sample in path {
-        tuples.push((*sample).into());
-    }
-    tuples
-}
-
-pub(crate) fn lent_over<'a>(path: &'a [(i16, i16)], pressure: &'a [u16]) -> Lent<'a>
-    ensures answer { held result ≡ stroke_held path.now pressure.now }
-{
-    let pressure = (!pressure.is_empty()).then_some(pressure);
-    Lent { path, pressure }
-}
-
-fn write_tuples<'a>(
-    path: &'a [(i16, i16)],
+// A stroke in lent lists, whose samples are copied as tuples, since no tuple crosses.
+#[derive(Drop)]
+pub(crate) struct Held<'a> {
+    path: ArrayVec<(i16, i16), MOST_SAMPLES>,
     pressure: &'a [u16],
-    out: &mut [u8],
-) -> Result<usize, Fault>
-    ensures answer { result ≡ writing (stroke_held path.now pressure.now) (length out.old) }
-    ensures after { out.new ≡ after_writing (stroke_held path.now pressure.now) out.old }
-{
-    let len = writing::write(&lent_over(path, pressure), out)?;
-    Ok(len)
+}
+
+impl<'a> Held<'a> {
+    pub(crate) fn of(path: &[Counts], pressure: &'a [u16]) -> Held<'a>
+        requires few { length path.now ≤ most_samples }
+        ensures answer { kept result ≡ lent_stroke path.now pressure.now }
+    {
+        let mut tuples = ArrayVec::new();
+        for sample in path {
+            tuples.push((*sample).into());
+        }
+        Held {
+            path: tuples,
+            pressure,
+        }
+    }
+
+    pub(crate) fn lent(&self) -> Lent<'_>
+        ensures answer { held result ≡ kept self.now }
+    {
+        Lent {
+            path: self.path.as_slice(),
+            pressure: (!self.pressure.is_empty()).then_some(self.pressure),
+        }
+    }
 }
 
 fn write_into(path: &[Counts], pressure: &[u16], out: &mut [u8]) -> Result<usize, Fault>
@@ -60,8 +61,8 @@ fn write_into(path: &[Counts], pressure: &[u16], out: &mut [u8]) -> Result<usize
     if path.len() > MOST_SAMPLES {
         return Err(Fault::Lent(LentFault::Length));
     }
-    let samples = tuples(path);
-    write_tuples(samples.as_slice(), pressure, out)
+    let len = writing::write(&Held::of(path, pressure).lent(), out)?;
+    Ok(len)
 }
 
 pub fn write(path: &[Counts], pressure: &[u16], out: &mut [u8], length: &mut usize) -> Status

@@ -5,10 +5,10 @@ ghost use Rattle.stroke.specs.Contents.{most_samples};
 ghost use Rattle.matching.specs.Lags.{matches};
 ghost use Rattle.matching.specs.Matched.{matched};
 ghost use Rattle.crossing.specs.Answers.{where_granted};
-ghost use Rattle.handover.specs.Lending.{pressure_held, pairs, stroke_held, lent_stroke};
+ghost use Rattle.handover.specs.Lending.{pressure_held, kept, lent_stroke};
 ghost use Rattle.handover.specs.Matching.{sum as sum_of, lags as lags_of, too_long, Matches};
 
-use crate::lending::{lent_over, tuples};
+use crate::lending::Held;
 use crate::reading::Counts;
 use crossing::{Status, answered, settled};
 use matching::Match;
@@ -18,7 +18,7 @@ use refusal::Fault;
 use spectrum::divides;
 use stroke::MOST_SAMPLES;
 
-// The pair R of a lag, in whole counts.
+// The pair R of a lag, in whole counts, as it crosses to C.
 #[derive(Clone, Copy)]
 #[repr(C)]
 pub struct Sum {
@@ -26,7 +26,7 @@ pub struct Sum {
     pub y: i64,
 }
 
-// The lags at which two strokes agree best. Where either has no pressures, `pressed` is 0 and so is `pressure`.
+// The lags at which two strokes agree best. Where either has no pressures, `pressed` is 0 and so is `pressure`: C has no Option.
 #[derive(Clone, Copy)]
 #[repr(C)]
 pub struct Lags {
@@ -81,37 +81,15 @@ fn copy_sums(sums: &[(i64, i64)], out: &mut [Sum])
     }
 }
 
-fn match_tuples<'a>(
-    a: &'a [(i16, i16)],
-    p: &'a [u16],
-    b: &'a [(i16, i16)],
-    q: &'a [u16],
-    out: &mut [(i64, i64)],
-) -> Result<Match, Fault>
-    ensures answer { result ≡ matched (stroke_held a.now p.now) (stroke_held b.now q.now) (length out.old) }
-    ensures after { out.new ≡ where_granted result (matches a.now b.now) out.old }
+// The match by way of sums in tuples, for which there is room on the stack.
+fn match_into(a: &Held<'_>, b: &Held<'_>, out: &mut [Sum]) -> Result<Lags, Fault>
+    requires few { length out.old ≤ most_samples }
+    ensures answer { result ≡ result_map_both lags_of (λ f. f) (matched (kept a.now) (kept b.now) (length out.old)) }
+    ensures after { out.new ≡ where_granted result (map sum_of (matches (kept a.now).path (kept b.now).path)) out.old }
 {
-    matching::match_strokes(&lent_over(a, p), &lent_over(b, q), out)
-}
-
-// The match of strokes that are not longer than they may be, by way of `sums`, since no tuple crosses.
-fn match_into(
-    a: &[Counts],
-    p: &[u16],
-    b: &[Counts],
-    q: &[u16],
-    sums: &mut [(i64, i64)],
-    out: &mut [Sum],
-) -> Result<Lags, Fault>
-    requires first { length a.now ≤ most_samples }
-    requires second { length b.now ≤ most_samples }
-    requires room { length out.old ≡ length sums.old }
-    ensures answer { result ≡ result_map_both lags_of (λ f. f) (matched (lent_stroke a.now p.now) (lent_stroke b.now q.now) (length out.old)) }
-    ensures after { out.new ≡ where_granted result (map sum_of (matches (pairs a.now) (pairs b.now))) out.old }
-{
-    let first = tuples(a);
-    let second = tuples(b);
-    let found = match_tuples(first.as_slice(), p, second.as_slice(), q, sums)?;
+    let mut sums = [(0, 0); MOST_SAMPLES];
+    let sums = &mut sums[..out.len()];
+    let found = matching::match_strokes(&a.lent(), &b.lent(), sums)?;
     copy_sums(sums, out);
     Ok(Lags::from(found))
 }
@@ -122,7 +100,7 @@ fn both_pressed(p: &[u16], q: &[u16]) -> bool
     !p.is_empty() && !q.is_empty()
 }
 
-// Matches two strokes: the sums of every lag go to `out`, and the best lags to `best`.
+// Matches two strokes: the sums of every lag go to `out`, and the best lags to `best`. Its parameters are those of the C call.
 pub fn match_strokes(
     a: &[Counts],
     p: &[u16],
@@ -133,10 +111,8 @@ pub fn match_strokes(
 ) -> Status
     ensures made { Matches (lent_stroke a.now p.now) (lent_stroke b.now q.now) best.old out.old result best.new out.new }
 {
-    let room = out.len();
-    if a.len() > MOST_SAMPLES || b.len() > MOST_SAMPLES || room > MOST_SAMPLES {
+    if a.len() > MOST_SAMPLES || b.len() > MOST_SAMPLES || out.len() > MOST_SAMPLES {
         return settled(over_long(a.len(), both_pressed(p, q)));
     }
-    let mut sums = [(0, 0); MOST_SAMPLES];
-    answered(match_into(a, p, b, q, &mut sums[0..room], out), best)
+    answered(match_into(&Held::of(a, p), &Held::of(b, q), out), best)
 }

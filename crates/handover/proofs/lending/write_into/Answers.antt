@@ -1,8 +1,10 @@
 use Rattle.std.proofs.Common.{◌≡◌, ◌<◌, length, ap, ◌∙◌, arith}
 use Rattle.std.proofs.lemmas.List.{length-map}
 use Rattle.stroke.specs.Contents.{most_samples}
+use Rattle.std.specs.Result.{result_map_both}
+use Rattle.refusal.specs.declared.Fault.TheVariants.{Lent}
 use Rattle.writing.specs.Written.{after_writing}
-use Rattle.handover.specs.Lending.{pairs, stroke_held, lent_stroke, writing}
+use Rattle.handover.specs.Lending.{pairs, lent_stroke, writing}
 use Rattle.handover.proofs.Lent.{writing_refused, nothing_written}
 use Rattle.handover.proofs.lending.write_into.Goals as goal
 
@@ -16,10 +18,9 @@ returns-then-path-gt-MOST_SAMPLES c =
 
 pub returns : goal.returns
 returns c =
-    let path = c.args.path.now in
-    let pressure = c.args.pressure.now in
-    let samples = c.as_slice.ensures.value ∙ c.tuples-samples.ensures.answer in
+    let stroke = c.lent.ensures.answer ∙ c.of.ensures.answer in
+    let out = c.args.out.now in
     record {
-      answer = c.write_tuples.ensures.answer ∙ ap (λ p. writing (stroke_held p pressure) (length c.args.out.now)) samples;
-      after = c.write_tuples.ensures.after ∙ ap (λ p. after_writing (stroke_held p pressure) c.args.out.now) samples;
+      answer = ap (result_map_both (λ len. len) Lent) c.in_ok-len.ensures.answer ∙ ap (λ s. writing s (length out)) stroke;
+      after = c.in_ok-len.ensures.after ∙ ap (λ s. after_writing s out) stroke;
     }
