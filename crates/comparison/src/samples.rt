@@ -26,7 +26,7 @@ fn path_of(stroke: &Stroke<'_>) -> ArrayVec<(i16, i16), MOST_SAMPLES>
     path
 }
 
-// A loop of its own: in an ArrayVec of a type parameter each push owes that its room fits in memory, which is not proved.
+// A loop of its own: at a type parameter a push owes that the ArrayVec fits in memory, which is not proved.
 fn pressure_of(stroke: &Stroke<'_>) -> Option<ArrayVec<u16, MOST_SAMPLES>>
     requires few { length (pressures (contents stroke.now)) ≤ most_samples }
     ensures answer { copied_pressure result ≡ (contents stroke.now).pressure }

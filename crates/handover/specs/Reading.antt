@@ -1,5 +1,5 @@
 -- Reading a stroke file for C: what is copied into the lent lists, or why the file or the lists are refused.
-use Rattle.std.specs.Prelude.{◌≡◌, ℕ, cond, ◌&&◌, List, map, length, ℤ, pos, Ok, Err, Result, nat_le}
+use Rattle.std.specs.Prelude.{◌≡◌, ℕ, cond, ◌&&◌, List, map, length, ℤ, Ok, Err, Result, nat_le}
 use Rattle.std.specs.Result.{result_map_both}
 use Rattle.stroke.specs.declared.fault.FileFault.{FileFault}
 use Rattle.stroke.specs.Contents.{Contents, pressures}
@@ -14,9 +14,6 @@ use Rattle.crossing.specs.Answers.{status_of, answer_or, in_front}
 -- a path sample
 abbrev pub counts : ℤ × ℤ → Counts
 counts p = record { x = p.0; y = p.1 }
-
-abbrev pub no_counts : Counts
-no_counts = counts (pos 0, pos 0)
 
 -- the path samples of a stroke
 abbrev pub path_counts : Contents → List Counts

@@ -8,24 +8,24 @@ chosen : (t : Bool) (n k : ℕ) → k ≤ n → cond t n k ≤ n
 chosen true n k h = omega arith
 chosen false n k h = h
 
-pub best_within : (f : ℕ → ℤ) (n : ℕ) → best f n ≤ n
+best_within : (f : ℕ → ℤ) (n : ℕ) → best f n ≤ n
 unfolding best
 best_within f zero = omega arith
 best_within f (suc n) = let low = chosen (lt_z (f (best f n)) (f n)) n (best f n) (best_within f n) in omega arith
 
-pub best_below : (f : ℕ → ℤ) (n : ℕ) → 0 < n → best f n < n
+best_below : (f : ℕ → ℤ) (n : ℕ) → 0 < n → best f n < n
 unfolding best
 best_below f zero h = absurd (omega arith)
 best_below f (suc n) h = let low = chosen (lt_z (f (best f n)) (f n)) n (best f n) (best_within f n) in omega arith
 
-pub best_one : (f : ℕ → ℤ) → 0 ≡ best f 1
+best_one : (f : ℕ → ℤ) → 0 ≡ best f 1
 best_one f = let low = best_below f 1 (omega arith) in omega arith
 
-pub best_takes : (f : ℕ → ℤ) (n : ℕ) → lt_z (f (best f n)) (f n) ≡ true → n ≡ best f (n + 1)
+best_takes : (f : ℕ → ℤ) (n : ℕ) → lt_z (f (best f n)) (f n) ≡ true → n ≡ best f (n + 1)
 unfolding best
 best_takes f n more = sym (ap (best f) (add-one n) ∙ rw more)
 
-pub best_keeps : (f : ℕ → ℤ) (n : ℕ) → lt_z (f (best f n)) (f n) ≡ false → best f n ≡ best f (n + 1)
+best_keeps : (f : ℕ → ℤ) (n : ℕ) → lt_z (f (best f n)) (f n) ≡ false → best f n ≡ best f (n + 1)
 unfolding best
 best_keeps f n none = sym (ap (best f) (add-one n) ∙ rw none)
 

@@ -15,7 +15,7 @@ fn add_products<X: Arithmetic>(sum: X, xs: &[X], ys: &[X]) -> X
 }
 
 // The sum over t of a_t times b at (t + lag) mod N: first what is met up to the end of b, and then from its front.
-// That the two are paired is asked by each function on them: a struct of both would owe it at each of its makers, as the calls do now.
+// That the two are paired each caller shows: a struct of both would ask the same of each of its makers, and say no more.
 pub(crate) fn lagged_sum<X: Arithmetic>(a: &[X], b: &[X], lag: usize) -> X
     requires paired { Paired a.now b.now lag }
     ensures answer { result ≡ lagged X.Arithmetic.meaning a.now b.now lag }

@@ -44,7 +44,7 @@ fn conjugate(sample: (i16, i16)) -> Path
 }
 
 // What `enter` makes of each sample.
-// Pressures have a loop of their own: in an ArrayVec of a type parameter each push owes that its room fits in memory, which is not proved.
+// Pressures have their own loop: at a type parameter a push owes that the ArrayVec fits in memory, which is not proved.
 fn elements<F: Fn((i16, i16)) -> Path>(
     path: &[(i16, i16)],
     enter: F,
