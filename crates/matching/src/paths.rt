@@ -66,9 +66,8 @@ fn every_sum(a: &[Path], b: &[Path], out: &mut [(i64, i64)])
     requires whole { length out.old ≡ length a.now }
     ensures after { out.new ≡ map (read_sum a.now b.now) (range_with_len 0 (length a.now)) }
 {
-    // After `iter_mut().enumerate()` nothing would be known of the sums.
-    for lag in 0..a.len() {
-        out[lag] = signed_parts(lagged_sum(a, b, lag));
+    for (lag, sum) in out.iter_mut().enumerate() {
+        *sum = signed_parts(lagged_sum(a, b, lag));
     }
 }
 
