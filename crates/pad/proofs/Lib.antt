@@ -1,5 +1,3 @@
 mod Granting
-mod Reporting
 mod Samples
 mod Spectra
-mod Texts

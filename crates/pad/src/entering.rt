@@ -11,17 +11,16 @@ use stroke::Stroke;
 fn entering(stroke: &Stroke<'_>, i: usize) -> Fixed
     ensures answer { result ≡ slice_index_or (entered (contents stroke.now).path) i origin }
 {
-    match stroke.path(i) {
-        Some((x, y)) => Fixed::sample(x, y),
-        None => Fixed::zero(),
-    }
+    stroke
+        .path(i)
+        .map_or(Fixed::zero(), |(x, y)| Fixed::sample(x, y))
 }
 
 pub(crate) fn enter(stroke: &Stroke<'_>, out: &mut [Fixed])
     requires { length out.old ≡ length (contents stroke.now).path }
     ensures after { out.new ≡ entered (contents stroke.now).path }
 {
-    for i in 0..out.len() {
-        out[i] = entering(stroke, i);
+    for (i, sample) in out.iter_mut().enumerate() {
+        *sample = entering(stroke, i);
     }
 }

@@ -33,10 +33,7 @@ fn fill(stroke: &Stroke<'_>, plan: &Plan, buf: &mut [Fixed], work: &mut [Fixed])
     ensures work { work.new ≡ replicate (length work.old) origin }
 {
     enter(stroke, buf);
-    match spectrum::transform(plan.radices(), buf, work) {
-        Ok(turns) => turns,
-        Err(_) => unreachable(),
-    }
+    spectrum::transform(plan.radices(), buf, work).unwrap()
 }
 
 // Transforms the stroke in `bytes` under the standard plan of its length N. The tones take the first N elements of

@@ -23,6 +23,7 @@ pub enum Failure {
     Text(AllocError),
 }
 
+// By hand, each with `from_gives`: `Reports` names the failure that `?` makes, and of a derived `From` nothing is known.
 impl From<Fault> for Failure {
     ghost from_gives = { λ f r. r ≡ OfRefused f };
 
@@ -46,7 +47,6 @@ pub fn report_on(heap: Global, bytes: &[u8]) -> Result<String, Failure>
     let mut tones = [NOTHING; MOST_SAMPLES];
     let mut work = [NOTHING; MOST_WORK];
     let summary = file_tones(bytes, &mut tones, &mut work)?;
-    let count = summary.count;
-    let text = spectrum_text(heap, summary.turns, &tones[0..count])?;
+    let text = spectrum_text(heap, summary.turns, &tones[..summary.count])?;
     Ok(text)
 }

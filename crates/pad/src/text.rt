@@ -15,9 +15,7 @@ fn write_heading(text: &mut String, count: usize, turns: usize) -> Result<(), Al
 fn write_tone(text: &mut String, k: usize, tone: Fixed) -> Result<(), AllocError>
     ensures after { OnOk result (string_bytes text.new ≡ string_bytes text.old ++ tone_line k tone) }
 {
-    let x = tone.x;
-    let y = tone.y;
-    writeln!(text, "{k} {x} {y}")
+    writeln!(text, "{k} {} {}", tone.x, tone.y)
 }
 
 fn write_tones(text: &mut String, tones: &[Fixed]) -> Result<(), AllocError>

@@ -1,15 +1,10 @@
-use Rattle.std.proofs.Common.{sym, ◌∙◌, w16, SFits, rules}
-use Rattle.std.proofs.lemmas.Int.{to_z-of_z}
+use Rattle.std.proofs.Common.{◌≡◌, MatchOption, rules}
 use Rattle.fixed.specs.Pairs.{sampled}
 use Rattle.stroke.specs.Reading.{contents}
-use Rattle.pad.proofs.Samples.{entered_there, entered_past}
+use Rattle.pad.proofs.Samples.{entered_at}
 use Rattle.pad.proofs.entering.entering.Goals as goal
 
-pub returns-in-Some : goal.returns-in-Some
-returns-in-Some c =
-    let fx : SFits w16 c.in-Some.x = search rules in
-    let fy : SFits w16 c.in-Some.y = search rules in
-    record { answer = c.sample.ensures.answer ∙ (λ i. sampled (to_z-of_z w16 c.in-Some.x fx i) (to_z-of_z w16 c.in-Some.y fy i)) ∙ entered_there (contents c.args.stroke.now).path c.args.i c.in-Some.x c.in-Some.y (sym c.in-Some.ensures) }
-
-pub returns-in-None : goal.returns-in-None
-returns-in-None c = record { answer = c.zero.ensures ∙ entered_past (contents c.args.stroke.now).path c.args.i (sym c.in-None.ensures) }
+pub returns : goal.returns
+returns c =
+    let at : MatchOption c.path.result (c.map_or.result ≡ c.zero.result) (λ p. c.map_or.result ≡ sampled p.0 p.1) = search rules in
+    record { answer = entered_at (contents c.args.stroke.now).path c.args.i c.path.result c.map_or.result c.zero.result c.path.ensures c.zero.ensures at }
