@@ -6,57 +6,23 @@
 // factors, and what lies where the result goes. The words of one element are joined by a comma.
 #![tactic(auto)]
 
-mod element;
-
-use anyhow::anyhow;
-use element::{Element, part};
+use anyhow::{Context, anyhow};
+use casework::{Element, elements, print_refusal, radices, script};
 use fixed::Fixed;
-use pad::refusal_text;
 use path::Path;
 use pressure::Pressure;
 use refusal::Fault;
 use spectrum::{convolve, inverse, transform};
-use std::alloc::Global;
-use std::io::Read;
-
-// How much of the input is read.
-const ENOUGH: u64 = 1_000_000;
 
 // How many elements are printed on a line.
 const ROW: usize = 8;
-
-fn radices(heap: Global, text: &str) -> anyhow::Result<Vec<u8>> {
-    let mut list = Vec::new(heap);
-    if text != "-" {
-        for word in text.split(',') {
-            list.push(word.parse::<u8>()?)?;
-        }
-    }
-    Ok(list)
-}
-
-fn elements<X: Element>(heap: Global, text: &str) -> anyhow::Result<Vec<X>> {
-    let mut list = Vec::new(heap);
-    for word in text.split_whitespace() {
-        list.push(X::parse(word)?)?;
-    }
-    Ok(list)
-}
-
-fn all_are<X: Element>(buf: &[X], like: X) -> bool {
-    for x in buf {
-        if *x != like {
-            return false;
-        }
-    }
-    true
-}
 
 fn print_elements<X: Element>(rt: &HostRuntime, buf: &[X]) -> anyhow::Result<()> {
     for row in buf.chunks(ROW) {
         let mut text = String::new(rt.alloc());
         for x in row {
-            x.write(&mut text)?;
+            text.push(' ')?;
+            X::write(x.read(), &mut text)?;
         }
         println!(rt; "{text}")?;
     }
@@ -74,14 +40,13 @@ fn print_end<X: Element>(
     match answer {
         Ok(()) => {
             print_elements(rt, buf)?;
-            if !all_are(work, X::zero()) {
+            if !work.iter().all(|x| *x == X::zero()) {
                 println!(rt; "the work is not cleared")?;
             }
         }
         Err(fault) => {
-            let line = refusal_text(rt.alloc(), fault)?;
-            print!(rt; "{line}")?;
-            if buf != before || !all_are(work, X::mark()) {
+            print_refusal(rt, fault)?;
+            if buf != before || !work.iter().all(|x| *x == X::mark()) {
                 println!(rt; "a lent buffer has changed")?;
             }
         }
@@ -122,11 +87,13 @@ fn run_convolve<X: Element>(
     lists: &str,
     work: &mut [X],
 ) -> anyhow::Result<()> {
-    let first = part(lists, '|', 0);
-    let second = part(lists, '|', 1);
+    let mut lists = lists.split('|');
+    let (Some(first), Some(second), Some(out)) = (lists.next(), lists.next(), lists.next()) else {
+        return Err(anyhow!("a convolution has three lists"));
+    };
     let a = elements::<X>(rt.alloc(), first)?;
     let b = elements::<X>(rt.alloc(), second)?;
-    let before = elements::<X>(rt.alloc(), part(lists, '|', 2))?;
+    let before = elements::<X>(rt.alloc(), out)?;
     let mut out = before.clone()?;
     let answer = convolve(radices, &a, &b, &mut out, work);
     if a != elements::<X>(rt.alloc(), first)? || b != elements::<X>(rt.alloc(), second)? {
@@ -135,11 +102,13 @@ fn run_convolve<X: Element>(
     print_end(rt, answer, &before, &out, work)
 }
 
-fn run<X: Element>(rt: &HostRuntime, head: &str, lists: &str) -> anyhow::Result<()> {
-    let radices = radices(rt.alloc(), part(head, ' ', 2))?;
-    let lent = part(head, ' ', 3).parse::<usize>()?;
-    let mut work = vec![in rt.alloc(); X::mark(); lent]?;
-    match part(head, ' ', 1) {
+// The words are the call, the radices and how much work is lent.
+fn run<X: Element>(rt: &HostRuntime, words: [&str; 3], lists: &str) -> anyhow::Result<()> {
+    let [call, plan, lent] = words;
+    let radices = radices(rt.alloc(), plan)?;
+    let mut work = vec![in rt.alloc(); X::mark(); lent.parse::<usize>()?]?;
+    // Each word is looked at once, here: an enum of the calls would only name them a second time.
+    match call {
         "transform" => run_transform(rt, &radices, lists, &mut work),
         "inverse" => run_inverse(rt, &radices, lists, &mut work),
         "convolve" => run_convolve(rt, &radices, lists, &mut work),
@@ -148,20 +117,27 @@ fn run<X: Element>(rt: &HostRuntime, head: &str, lists: &str) -> anyhow::Result<
 }
 
 fn case(rt: &HostRuntime, line: &str) -> anyhow::Result<()> {
-    let head = part(line, ':', 0);
-    let lists = part(line, ':', 1);
+    let (head, lists) = line.split_once(':').context("a case has a ':'")?;
     println!(rt; "{head}")?;
-    match part(head, ' ', 0) {
-        "pressure" => run::<Pressure>(rt, head, lists),
-        "path" => run::<Path>(rt, head, lists),
-        "fixed" => run::<Fixed>(rt, head, lists),
+    let mut words = head.split(' ');
+    let (Some(arithmetic), Some(call), Some(plan), Some(lent)) = (
+        words.next(),
+        words.next(),
+        words.next(),
+        words.next(),
+    ) else {
+        return Err(anyhow!("a case begins with four words"));
+    };
+    match arithmetic {
+        "pressure" => run::<Pressure>(rt, [call, plan, lent], lists),
+        "path" => run::<Path>(rt, [call, plan, lent], lists),
+        "fixed" => run::<Fixed>(rt, [call, plan, lent], lists),
         _ => Err(anyhow!("no such arithmetic")),
     }
 }
 
 fn main(rt: HostRuntime) -> anyhow::Result<()> {
-    let mut text = String::new(rt.alloc());
-    rt.stdin().take(ENOUGH).read_to_string(&mut text)?;
+    let text = script(rt.alloc(), rt.stdin())?;
     for line in text.as_str().lines() {
         case(&rt, line)?;
     }

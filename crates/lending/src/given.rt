@@ -1,4 +1,5 @@
 // How a stroke is written in a case.
+use anyhow::Context;
 use std::alloc::Global;
 use writing::Lent;
 
@@ -8,64 +9,56 @@ pub(crate) struct Given {
     pressure: Option<Vec<u16>>,
 }
 
-// What stands at place i of the parts between the marks; nothing if there is no such part.
-pub(crate) fn part(text: &str, mark: char, i: usize) -> &str {
-    text.split(mark).nth(i).unwrap_or("")
-}
-
 // The value of a word, and how many times it stands there.
 fn times(word: &str) -> anyhow::Result<(&str, usize)> {
     match word.split_once('*') {
-        Some((value, count)) => Ok((value, count.parse::<usize>()?)),
+        Some((value, count)) => Ok((value, count.parse()?)),
         None => Ok((word, 1)),
     }
 }
 
-fn pairs(heap: Global, text: &str) -> anyhow::Result<Vec<(i16, i16)>> {
-    let mut list = Vec::new(heap);
-    for word in text.split_whitespace() {
-        let (value, count) = times(word)?;
-        let x = part(value, ',', 0).parse::<i16>()?;
-        let y = part(value, ',', 1).parse::<i16>()?;
-        for _ in 0..count {
-            list.push((x, y))?;
-        }
-    }
-    Ok(list)
+fn pair(value: &str) -> anyhow::Result<(i16, i16)> {
+    let (x, y) = value.split_once(',').context("a sample is a pair")?;
+    Ok((x.parse()?, y.parse()?))
 }
 
-fn counts(heap: Global, text: &str) -> anyhow::Result<Vec<u16>> {
+fn count(value: &str) -> anyhow::Result<u16> {
+    Ok(value.parse()?)
+}
+
+// The values of the words, each as many times as it stands there.
+fn values<T: Copy, Read: Fn(&str) -> anyhow::Result<T>>(
+    heap: Global,
+    text: &str,
+    read: Read,
+) -> anyhow::Result<Vec<T>>
+    requires { Read.IsAlwaysCallable read }
+{
     let mut list = Vec::new(heap);
     for word in text.split_whitespace() {
         let (value, count) = times(word)?;
-        let u = value.parse::<u16>()?;
-        for _ in 0..count {
-            list.push(u)?;
-        }
+        let long = list.len().saturating_add(count);
+        list.resize(long, read(value)?)?;
     }
     Ok(list)
 }
 
 impl Given {
     pub(crate) fn parse(heap: Global, text: &str) -> anyhow::Result<Given> {
-        let path = pairs(heap, part(text, '/', 0))?;
-        let after = part(text, '/', 1);
-        let pressure = if after.trim() == "-" {
+        let (path, pressure) = text.split_once('/').context("a stroke has a '/'")?;
+        let path = values(heap, path, pair)?;
+        let pressure = if pressure.trim() == "-" {
             None
         } else {
-            Some(counts(heap, after)?)
+            Some(values(heap, pressure, count)?)
         };
         Ok(Given { path, pressure })
     }
 
     pub(crate) fn lent(&self) -> Lent<'_> {
-        let pressure = match &self.pressure {
-            Some(us) => Some(us.as_slice()),
-            None => None,
-        };
         Lent {
             path: self.path.as_slice(),
-            pressure,
+            pressure: self.pressure.as_deref(),
         }
     }
 }

@@ -10,20 +10,14 @@ mod given;
 mod matches;
 mod writes;
 
-use anyhow::anyhow;
-use given::part;
+use anyhow::{Context, anyhow};
+use casework::script;
 use matches::run_match;
-use pad::refusal_text;
 use refusal::Fault;
-use std::io::Read;
 use writes::run_write;
 
-// How much of the input is read.
-const ENOUGH: u64 = 1_000_000;
-
 pub(crate) fn print_refusal(rt: &HostRuntime, fault: Fault, changed: bool) -> anyhow::Result<()> {
-    let line = refusal_text(rt.alloc(), fault)?;
-    print!(rt; "{line}")?;
+    casework::print_refusal(rt, fault)?;
     if changed {
         println!(rt; "the output has changed")?;
     }
@@ -31,20 +25,22 @@ pub(crate) fn print_refusal(rt: &HostRuntime, fault: Fault, changed: bool) -> an
 }
 
 fn case(rt: &HostRuntime, line: &str) -> anyhow::Result<()> {
-    let head = part(line, ':', 0);
-    let strokes = part(line, ':', 1);
+    let (head, strokes) = line.split_once(':').context("a case has a ':'")?;
     println!(rt; "{head}")?;
-    let room = part(head, ' ', 1).parse::<usize>()?;
-    match part(head, ' ', 0) {
-        "match" => run_match(rt, room, part(head, ' ', 2), strokes),
-        "write" => run_write(rt, room, strokes),
+    let mut words = head.split(' ');
+    let (Some(call), Some(room)) = (words.next(), words.next()) else {
+        return Err(anyhow!("a case begins with a call and a room"));
+    };
+    let room = room.parse()?;
+    match (call, words.next()) {
+        ("match", Some(lags)) => run_match(rt, room, lags, strokes),
+        ("write", None) => run_write(rt, room, strokes),
         _ => Err(anyhow!("no such call")),
     }
 }
 
 fn main(rt: HostRuntime) -> anyhow::Result<()> {
-    let mut text = String::new(rt.alloc());
-    rt.stdin().take(ENOUGH).read_to_string(&mut text)?;
+    let text = script(rt.alloc(), rt.stdin())?;
     for line in text.as_str().lines() {
         case(&rt, line)?;
     }

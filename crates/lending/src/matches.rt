@@ -1,22 +1,14 @@
 // The cases of matching.
-use crate::given::{Given, part};
+use crate::given::Given;
 use crate::print_refusal;
+use anyhow::Context;
 use matching::{Match, match_strokes};
 
 // What fills the output before a call, so that a change shows.
 const MARK: (i64, i64) = (77, -77);
 
-fn all_marks(out: &[(i64, i64)]) -> bool {
-    for pair in out {
-        if *pair != MARK {
-            return false;
-        }
-    }
-    true
-}
-
-fn print_pair(rt: &HostRuntime, out: &[(i64, i64)], lag: usize) -> anyhow::Result<()> {
-    match out.get(lag) {
+fn print_pair(rt: &HostRuntime, lag: usize, pair: Option<&(i64, i64)>) -> anyhow::Result<()> {
+    match pair {
         Some((x, y)) => println!(rt; "{lag} {x} {y}")?,
         None => println!(rt; "{lag} is no lag")?,
     }
@@ -25,12 +17,13 @@ fn print_pair(rt: &HostRuntime, out: &[(i64, i64)], lag: usize) -> anyhow::Resul
 
 fn print_pairs(rt: &HostRuntime, out: &[(i64, i64)], lags: &str) -> anyhow::Result<()> {
     if lags == "all" {
-        for lag in 0..out.len() {
-            print_pair(rt, out, lag)?;
+        for (lag, pair) in out.iter().enumerate() {
+            print_pair(rt, lag, Some(pair))?;
         }
     } else {
         for word in lags.split(',') {
-            print_pair(rt, out, word.parse::<usize>()?)?;
+            let lag = word.parse::<usize>()?;
+            print_pair(rt, lag, out.get(lag))?;
         }
     }
     Ok(())
@@ -51,14 +44,17 @@ pub(crate) fn run_match(
     lags: &str,
     strokes: &str,
 ) -> anyhow::Result<()> {
-    let a = Given::parse(rt.alloc(), part(strokes, '|', 0))?;
-    let b = Given::parse(rt.alloc(), part(strokes, '|', 1))?;
+    let (a, b) = strokes
+        .split_once('|')
+        .context("a match is of two strokes")?;
+    let a = Given::parse(rt.alloc(), a)?;
+    let b = Given::parse(rt.alloc(), b)?;
     let mut out = vec![in rt.alloc(); MARK; room]?;
     match match_strokes(&a.lent(), &b.lent(), &mut out) {
         Ok(found) => {
             print_match(rt, found)?;
             print_pairs(rt, &out, lags)
         }
-        Err(fault) => print_refusal(rt, fault, !all_marks(&out)),
+        Err(fault) => print_refusal(rt, fault, !out.iter().all(|pair| *pair == MARK)),
     }
 }

@@ -11,31 +11,14 @@ const MARK: u8 = 0xa5;
 // How many bytes are printed on a line.
 const ROW: usize = 24;
 
-fn all_marks(out: &[u8]) -> bool {
-    for byte in out {
-        if *byte != MARK {
-            return false;
-        }
-    }
-    true
-}
-
 fn same_path(back: &Stroke<'_>, path: &[(i16, i16)]) -> bool {
-    for (i, sample) in path.iter().enumerate() {
-        if back.path(i) != Some(*sample) {
-            return false;
-        }
-    }
-    back.len() == path.len()
+    let mut samples = path.iter().enumerate();
+    back.len() == path.len() && samples.all(|(i, sample)| back.path(i) == Some(*sample))
 }
 
 fn same_pressures(back: &Stroke<'_>, us: &[u16]) -> bool {
-    for (i, u) in us.iter().enumerate() {
-        if back.pressure(i) != Some(*u) {
-            return false;
-        }
-    }
-    back.has_pressure()
+    let mut samples = us.iter().enumerate();
+    back.has_pressure() && samples.all(|(i, u)| back.pressure(i) == Some(*u))
 }
 
 // Whether the bytes are read as the stroke.
@@ -74,6 +57,10 @@ pub(crate) fn run_write(rt: &HostRuntime, room: usize, stroke: &str) -> anyhow::
             }
             Ok(())
         }
-        Err(fault) => print_refusal(rt, Fault::Lent(fault), !all_marks(&out)),
+        Err(fault) => print_refusal(
+            rt,
+            Fault::Lent(fault),
+            !out.iter().all(|byte| *byte == MARK),
+        ),
     }
 }

@@ -4,39 +4,18 @@
 // 'shift H', 'mirror', 'lay V V ..' or 'tone K'. The two words of a path element are joined by a comma.
 #![tactic(auto)]
 
-mod element;
 mod worked;
 
 use agreement::agreement;
 use anyhow::anyhow;
 use arithmetic::Arithmetic;
-use element::Element;
-use pad::refusal_text;
+use casework::{Element, elements, print_refusal, script};
 use path::Path;
 use plan::Plan;
 use pressure::Pressure;
 use refusal::Fault;
 use sheet::{Sheet, open};
 use spectrum::SCRATCH;
-use std::alloc::Global;
-use std::io::Read;
-
-// How much of the input is read.
-const ENOUGH: u64 = 1_000_000;
-
-fn elements<X: Element>(heap: Global, text: &str) -> anyhow::Result<Vec<X>> {
-    let mut list = Vec::new(heap);
-    for word in text.split_whitespace() {
-        list.push(X::parse(word)?)?;
-    }
-    Ok(list)
-}
-
-fn print_refusal(rt: &HostRuntime, fault: Fault) -> anyhow::Result<()> {
-    let line = refusal_text(rt.alloc(), fault)?;
-    print!(rt; "{line}")?;
-    Ok(())
-}
 
 fn print_answer(rt: &HostRuntime, answer: Result<(), Fault>) -> anyhow::Result<()> {
     match answer {
@@ -64,6 +43,7 @@ fn play_tone<X: Element>(
 
 fn play<X: Element>(rt: &HostRuntime, sheet: &mut Sheet<'_, X>, line: &str) -> anyhow::Result<()> {
     let (call, rest) = line.split_once(' ').unwrap_or((line, ""));
+    // Each word is looked at once, here: an enum of the calls would only name them a second time.
     match call {
         "edit" => {
             let (number, value) = rest.split_once(' ').unwrap_or((rest, ""));
@@ -91,13 +71,8 @@ fn perform<X: Element>(rt: &HostRuntime, samples: &str, calls: &str) -> anyhow::
     agreement::<X>();
     let mut cells = elements::<X>(rt.alloc(), samples)?;
     let n = cells.len();
-    for _i in 0..n {
-        cells.push(X::zero())?;
-    }
-    let mut work = Vec::new(rt.alloc());
-    for _i in 0..n.saturating_add(SCRATCH) {
-        work.push(X::zero())?;
-    }
+    cells.resize(n.saturating_mul(2), X::zero())?;
+    let mut work = vec![in rt.alloc(); X::zero(); n.saturating_add(SCRATCH)]?;
     match opened(&mut cells, &mut work) {
         Ok(n) => {
             let mut sheet = Sheet::over(&mut cells, n);
@@ -112,7 +87,7 @@ fn perform<X: Element>(rt: &HostRuntime, samples: &str, calls: &str) -> anyhow::
 }
 
 // A script: its first line, and its calls.
-fn script(rt: &HostRuntime, text: &str) -> anyhow::Result<()> {
+fn play_script(rt: &HostRuntime, text: &str) -> anyhow::Result<()> {
     let (first, calls) = text.split_once('\n').unwrap_or((text, ""));
     let (kind, samples) = first.split_once(' ').unwrap_or((first, ""));
     println!(rt; "{kind}")?;
@@ -124,11 +99,10 @@ fn script(rt: &HostRuntime, text: &str) -> anyhow::Result<()> {
 }
 
 fn main(rt: HostRuntime) -> anyhow::Result<()> {
-    let mut text = String::new(rt.alloc());
-    rt.stdin().take(ENOUGH).read_to_string(&mut text)?;
+    let text = script(rt.alloc(), rt.stdin())?;
     // An empty line stands between two scripts.
     for part in text.as_str().split("\n\n") {
-        script(&rt, part)?;
+        play_script(&rt, part)?;
     }
     Ok(())
 }

@@ -4,8 +4,8 @@
 
 use anyhow::anyhow;
 use arithmetic::Arithmetic;
+use casework::{Element, print_refusal};
 use fixed::Fixed;
-use pad::refusal_text;
 use pressure::Pressure;
 use refusal::Fault;
 use runs::Run;
@@ -13,11 +13,6 @@ use std::alloc::{AllocError, Global};
 
 // How many different samples there are, each way.
 const COUNTS: usize = 2047;
-
-// What fills the work before a call, so that a change shows.
-const MARK: Fixed = Fixed { x: 77, y: -77 };
-
-const NOTHING: Fixed = Fixed { x: 0, y: 0 };
 
 // Work enough for every plan.
 const ROOM: usize = 520;
@@ -30,20 +25,7 @@ fn sample(t: usize) -> Fixed {
 }
 
 fn samples(heap: Global, n: usize) -> Result<Vec<Fixed>, AllocError> {
-    let mut list = Vec::new(heap);
-    for t in 0..n {
-        list.push(sample(t))?;
-    }
-    Ok(list)
-}
-
-fn all_are(buf: &[Fixed], like: Fixed) -> bool {
-    for x in buf {
-        if *x != like {
-            return false;
-        }
-    }
-    true
+    (0..n).map(sample).collect(heap)
 }
 
 fn show(rt: &HostRuntime, heading: &str, number: usize, buf: &[Fixed]) -> anyhow::Result<()> {
@@ -53,12 +35,6 @@ fn show(rt: &HostRuntime, heading: &str, number: usize, buf: &[Fixed]) -> anyhow
         let y = value.y;
         println!(rt; "{k} {x} {y}")?;
     }
-    Ok(())
-}
-
-fn refused(rt: &HostRuntime, fault: Fault) -> anyhow::Result<()> {
-    let line = refusal_text(rt.alloc(), fault)?;
-    print!(rt; "{line}")?;
     Ok(())
 }
 
@@ -82,26 +58,24 @@ fn poll_all(
 ) -> anyhow::Result<()> {
     let mut run = match Run::deal(radices, buf, work) {
         Ok(run) => run,
-        Err(fault) => return refused(rt, fault),
+        Err(fault) => return print_refusal(rt, fault),
     };
     for _i in 0..run.left() {
         let shown = show(rt, "left", run.left(), buf);
         run = go_on(run, buf, shown)?;
         run = match run.stage(buf, work) {
             Ok(next) => next,
-            Err(e) => {
-                let (held, fault) = e;
+            Err((held, fault)) => {
                 held.give_up(buf);
-                return refused(rt, fault);
+                return print_refusal(rt, fault);
             }
         };
     }
     match run.finish() {
         Ok(turns) => show(rt, "turns", turns, buf),
-        Err(e) => {
-            let (held, fault) = e;
+        Err((held, fault)) => {
             held.give_up(buf);
-            refused(rt, fault)
+            print_refusal(rt, fault)
         }
     }
 }
@@ -109,9 +83,9 @@ fn poll_all(
 fn case(rt: &HostRuntime, radices: &[u8], n: usize) -> anyhow::Result<()> {
     println!(rt; "plan {radices:?}")?;
     let mut buf = samples(rt.alloc(), n)?;
-    let mut work = vec![in rt.alloc(); MARK; ROOM]?;
+    let mut work = vec![in rt.alloc(); Fixed::mark(); ROOM]?;
     poll_all(rt, radices, &mut buf, &mut work)?;
-    if !all_are(&work, NOTHING) {
+    if !work.iter().all(|x| *x == Fixed::zero()) {
         println!(rt; "the work is not cleared")?;
     }
     Ok(())
@@ -121,15 +95,15 @@ fn case(rt: &HostRuntime, radices: &[u8], n: usize) -> anyhow::Result<()> {
 fn deal_only(rt: &HostRuntime, radices: &[u8], n: usize, room: usize) -> anyhow::Result<()> {
     let before = samples(rt.alloc(), n)?;
     let mut buf = before.clone()?;
-    let mut work = vec![in rt.alloc(); MARK; room]?;
+    let mut work = vec![in rt.alloc(); Fixed::mark(); room]?;
     match Run::deal(radices, &mut buf, &mut work) {
         Ok(run) => {
             run.give_up(&mut buf);
             println!(rt; "granted")?;
         }
         Err(fault) => {
-            refused(rt, fault)?;
-            if buf != before || !all_are(&work, MARK) {
+            print_refusal(rt, fault)?;
+            if buf != before || !work.iter().all(|x| *x == Fixed::mark()) {
                 println!(rt; "a lent buffer has changed")?;
             }
         }
@@ -141,16 +115,13 @@ fn deal_only(rt: &HostRuntime, radices: &[u8], n: usize, room: usize) -> anyhow:
 fn try_stage<X: Arithmetic>(run: Run, buf: &mut [X], work: &mut [X]) -> (Run, Option<Fault>) {
     match run.stage(buf, work) {
         Ok(next) => (next, None),
-        Err(e) => {
-            let (held, fault) = e;
-            (held, Some(fault))
-        }
+        Err((held, fault)) => (held, Some(fault)),
     }
 }
 
 fn say(rt: &HostRuntime, heard: Option<Fault>) -> anyhow::Result<()> {
     match heard {
-        Some(fault) => refused(rt, fault),
+        Some(fault) => print_refusal(rt, fault),
         None => {
             println!(rt; "granted")?;
             Ok(())
@@ -170,8 +141,7 @@ fn begin<X: Arithmetic>(radices: &[u8], buf: &mut [X], work: &mut [X]) -> anyhow
 fn end<X: Arithmetic>(run: Run, buf: &mut [X]) -> anyhow::Result<usize> {
     match run.finish() {
         Ok(turns) => Ok(turns),
-        Err(e) => {
-            let (held, _) = e;
+        Err((held, _)) => {
             held.give_up(buf);
             Err(anyhow!("a stage was left"))
         }
@@ -181,7 +151,7 @@ fn end<X: Arithmetic>(run: Run, buf: &mut [X]) -> anyhow::Result<usize> {
 // A run that is given up after its first stage, over a buffer of some other length.
 fn abandon(rt: &HostRuntime, n: usize) -> anyhow::Result<()> {
     let mut buf = samples(rt.alloc(), 8)?;
-    let mut work = vec![in rt.alloc(); MARK; ROOM]?;
+    let mut work = vec![in rt.alloc(); Fixed::mark(); ROOM]?;
     let mut other = samples(rt.alloc(), n)?;
     let run = begin(&[2, 2, 2], &mut buf, &mut work)?;
     let (run, heard) = try_stage(run, &mut buf, &mut work);
@@ -194,9 +164,9 @@ fn abandon(rt: &HostRuntime, n: usize) -> anyhow::Result<()> {
 // A run that is refused before, between and after its stages, goes on each time and is finished.
 fn insist(rt: &HostRuntime) -> anyhow::Result<()> {
     let mut buf = samples(rt.alloc(), 8)?;
-    let mut work = vec![in rt.alloc(); MARK; 16]?;
+    let mut work = vec![in rt.alloc(); Fixed::mark(); 16]?;
     let mut other = samples(rt.alloc(), 7)?;
-    let mut short = vec![in rt.alloc(); MARK; 15]?;
+    let mut short = vec![in rt.alloc(); Fixed::mark(); 15]?;
     let run = begin(&[4, 2], &mut buf, &mut work)?;
     let (run, length) = try_stage(run, &mut other, &mut short);
     let (run, room) = try_stage(run, &mut buf, &mut short);
@@ -212,7 +182,7 @@ fn insist(rt: &HostRuntime) -> anyhow::Result<()> {
     for heard in [length, room, first, Some(early), second, late, room_first] {
         say(rt, heard)?;
     }
-    if !all_are(&short, MARK) || other != samples(rt.alloc(), 7)? {
+    if !short.iter().all(|x| *x == Fixed::mark()) || other != samples(rt.alloc(), 7)? {
         println!(rt; "a lent buffer has changed")?;
     }
     show(rt, "turns", turns, &buf)
@@ -221,7 +191,7 @@ fn insist(rt: &HostRuntime) -> anyhow::Result<()> {
 // A run of three samples, whose length the fixed arithmetic refuses and the pressure arithmetic grants.
 fn change(rt: &HostRuntime) -> anyhow::Result<()> {
     let mut fixed = samples(rt.alloc(), 3)?;
-    let mut fixed_work = vec![in rt.alloc(); MARK; ROOM]?;
+    let mut fixed_work = vec![in rt.alloc(); Fixed::mark(); ROOM]?;
     let mut counts = vec![in rt.alloc(); Pressure::count(1023); 3]?;
     let mut work = vec![in rt.alloc(); Pressure::count(1); ROOM]?;
     let run = begin(&[3], &mut counts, &mut work)?;

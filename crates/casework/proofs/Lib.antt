@@ -1,0 +1,3 @@
+mod Counting
+mod Limits
+mod Words

@@ -1,0 +1,101 @@
+// How the elements of each arithmetic are written in a case, and their readings printed.
+ghost use Rattle.std.specs.Prelude.{◌≡◌, ℕ, ◌^◌, ◌<◌, List, ◌++◌, IsOkAnd, Ok, OnOk, string_bytes};
+ghost use Rattle.fixed.specs.Range.{InRange};
+ghost use Rattle.casework.specs.Spelling.{Spelling, comma, Lacks, joined, pressure_spelling, path_spelling, fixed_spelling};
+
+use anyhow::Context;
+use arithmetic::Arithmetic;
+use fixed::Fixed;
+use path::Path;
+use pressure::Pressure;
+use std::alloc::AllocError;
+
+pub trait Element: Arithmetic + Clone + PartialEq {
+    // Its words are numbers that a machine holds.
+    ghost Held: { Self → Type 0 };
+
+    ghost spelling: { Spelling Self Self.Reading };
+
+    // What fills the work before a call, so that a change shows.
+    fn mark() -> Self;
+
+    // Its words as they stand, reduced or not.
+    fn parse(text: &str) -> anyhow::Result<Self>
+        ensures read { (x : Self) → Held x → text.now ≡ spelling.written x → result ≡ Ok x };
+
+    fn write(reading: Self::Reading, text: &mut String) -> Result<(), AllocError>
+        ensures after { OnOk result (string_bytes text.new ≡ string_bytes text.old ++ spelling.printed reading) };
+}
+
+// The two words that a comma joins.
+fn pair(text: &str) -> anyhow::Result<(&str, &str)>
+    ensures answer { (u v : List ℕ) → Lacks comma u → text.now ≡ joined u v → IsOkAnd result (λ p. (p.0.now ≡ u) × (p.1.now ≡ v)) }
+{
+    text.split_once(',').context("an element has two words")
+}
+
+impl Element for Pressure {
+    ghost Held = { λ a. a.word < 2 ^ 32 };
+
+    ghost spelling = { pressure_spelling };
+
+    fn mark() -> Pressure {
+        Pressure { word: u32::MAX }
+    }
+
+    fn parse(text: &str) -> anyhow::Result<Pressure> {
+        Ok(Pressure {
+            word: text.parse()?,
+        })
+    }
+
+    fn write(reading: u32, text: &mut String) -> Result<(), AllocError> {
+        write!(text, "{reading}")
+    }
+}
+
+impl Element for Path {
+    ghost Held = { λ a. (a.u < 2 ^ 32) × (a.v < 2 ^ 32) };
+
+    ghost spelling = { path_spelling };
+
+    fn mark() -> Path {
+        Path { u: u32::MAX, v: 77 }
+    }
+
+    fn parse(text: &str) -> anyhow::Result<Path> {
+        let (u, v) = pair(text)?;
+        Ok(Path {
+            u: u.parse()?,
+            v: v.parse()?,
+        })
+    }
+
+    fn write(reading: (u32, u32), text: &mut String) -> Result<(), AllocError> {
+        let (u, v) = reading;
+        write!(text, "{u},{v}")
+    }
+}
+
+impl Element for Fixed {
+    ghost Held = { λ a. (InRange a.x) × (InRange a.y) };
+
+    ghost spelling = { fixed_spelling };
+
+    fn mark() -> Fixed {
+        Fixed { x: 77, y: -77 }
+    }
+
+    fn parse(text: &str) -> anyhow::Result<Fixed> {
+        let (x, y) = pair(text)?;
+        Ok(Fixed {
+            x: x.parse()?,
+            y: y.parse()?,
+        })
+    }
+
+    fn write(reading: (i32, i32), text: &mut String) -> Result<(), AllocError> {
+        let (x, y) = reading;
+        write!(text, "{x},{y}")
+    }
+}

@@ -1,0 +1,45 @@
+// That calls succeed where there is memory, and how a list is taken apart.
+use crate::{Element, elements, file_bytes, print_refusal, radices, script};
+use fixed::Fixed;
+use path::Path;
+use pressure::Pressure;
+use refusal::Fault;
+use std::test::Fail;
+
+#[test]
+fn lists_are_read(rt: HostRuntime) -> Result<(), Fail> {
+    assert_eq!(rt; radices(rt.alloc(), "-")?.len(), 0);
+    assert_eq!(rt;
+        radices(rt.alloc(), "3,2,8")?.as_slice(),
+        [3, 2, 8].as_slice()
+    );
+    let list = elements::<Path>(rt.alloc(), " 1,2  4294967295,0 ")?;
+    let want = [Path { u: 1, v: 2 }, Path { u: u32::MAX, v: 0 }];
+    assert_eq!(rt; list.as_slice(), want.as_slice());
+    assert!(rt; elements::<Fixed>(rt.alloc(), "3,4 5").is_err());
+    Ok(())
+}
+
+#[test]
+fn readings_are_printed(rt: HostRuntime) -> Result<(), Fail> {
+    let mut text = String::new(rt.alloc());
+    Pressure::write(7, &mut text)?;
+    Path::write((1, 2), &mut text)?;
+    Fixed::write((3, -4), &mut text)?;
+    assert_eq!(rt; text.as_str(), "71,23,-4");
+    Ok(())
+}
+
+#[test]
+fn input_is_read(rt: HostRuntime) -> Result<(), Fail> {
+    let long = vec![in rt.alloc(); 7u8; 70_000]?;
+    assert_eq!(rt; file_bytes(rt.alloc(), long.as_slice())?.len(), 65_537);
+    assert_eq!(rt; script(rt.alloc(), "case\n".as_bytes())?.as_str(), "case\n");
+    Ok(())
+}
+
+#[test]
+fn a_refusal_is_printed(rt: HostRuntime) -> Result<(), Fail> {
+    print_refusal(&rt, Fault::Length)?;
+    Ok(())
+}
