@@ -3,7 +3,7 @@ use Rattle.std.specs.Prelude.{ℕ, ◌+◌, List, [], ◌∷◌, ◌++◌, lengt
 use Rattle.std.specs.Fmt.{signed_decimal}
 use Rattle.fixed.specs.declared.Fixed.{Fixed}
 use Rattle.refusal.specs.declared.Fault.{Fault}
-use Rattle.refusal.specs.Faults.{number_of, layer_of, layer_number, place_of}
+use Rattle.refusal.specs.Printed.{printed_fault}
 
 -- how many tones, and how many turns made them
 abbrev pub heading : ℕ → ℕ → List ℕ
@@ -24,5 +24,4 @@ printed turns tones = heading (length tones) turns ++ tone_lines 0 tones
 
 -- a refusal, by its number, layer and place
 abbrev pub printed_refusal : Fault → List ℕ
-printed_refusal fault =
-    codes "refused " ++ (decimal (number_of fault) ++ (codes " " ++ (decimal (layer_number (layer_of fault)) ++ (codes " " ++ (decimal (place_of fault) ++ codes "\n")))))
+printed_refusal fault = codes "refused " ++ (printed_fault fault ++ codes "\n")

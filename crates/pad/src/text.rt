@@ -41,10 +41,7 @@ pub fn spectrum_text(heap: Global, turns: usize, tones: &[Fixed]) -> Result<Stri
 pub fn refusal_text(heap: Global, fault: Fault) -> Result<String, AllocError>
     ensures answer { IfOk result (λ text. string_bytes text ≡ printed_refusal fault) }
 {
-    let number = fault.number();
-    let layer = fault.layer().number();
-    let place = fault.place();
     let mut text = String::new(heap);
-    writeln!(text, "refused {number} {layer} {place}")?;
+    writeln!(text, "refused {fault}")?;
     Ok(text)
 }

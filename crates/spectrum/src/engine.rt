@@ -72,11 +72,11 @@ impl<X: Arithmetic> Shape<X> {
         requires scratch { self.now.radix ≤ length scratch.old }
         ensures after { Column X.Arithmetic.meaning self.now.radix self.now.len j self.now.radix block.old block.new }
     {
-        // By number: after `iter_mut().enumerate()` a proof knows nothing of what was written.
-        for i in 0..self.radix {
-            scratch[i] = self.output(block, i, j);
+        let tones = &mut scratch[..self.radix];
+        for (i, tone) in tones.iter_mut().enumerate() {
+            *tone = self.output(block, i, j);
         }
-        for (i, tone) in scratch[0..self.radix].iter().enumerate() {
+        for (i, tone) in tones.iter().enumerate() {
             block[self.place(i, j)] = *tone;
         }
     }
@@ -99,7 +99,7 @@ impl<X: Arithmetic> Shape<X> {
         ensures after { buf.new ≡ staged X.Arithmetic.meaning self.now.radix self.now.len buf.old }
     {
         let size = self.radix * self.len;
-        // By number: after `chunks_exact_mut` a proof knows nothing of what was written.
+        // By number: tried, and after `for block in buf.chunks_exact_mut(size)` a proof knows nothing of what was written.
         for b in 0..buf.len() / size {
             self.combine(&mut buf[b * size..(b + 1) * size], scratch);
         }
