@@ -54,31 +54,22 @@ fn print_end<X: Element>(
     Ok(())
 }
 
-fn run_transform<X: Element>(
+// A call on one list, where it lies. It answers the turns made, if it counts any.
+fn run_in_place<X: Element, F: FnOnce(&mut [X], &mut [X]) -> Result<Option<usize>, Fault>>(
     rt: &HostRuntime,
-    radices: &[u8],
+    call: F,
     lists: &str,
     work: &mut [X],
-) -> anyhow::Result<()> {
+) -> anyhow::Result<()>
+    requires { F.IsAlwaysCallable call }
+{
     let before = elements::<X>(rt.alloc(), lists)?;
     let mut buf = before.clone()?;
-    let answer = transform(radices, &mut buf, work);
-    if let Ok(turns) = &answer {
+    let answer = call(&mut buf, work);
+    if let Ok(Some(turns)) = &answer {
         println!(rt; "turns {turns}")?;
     }
-    print_end(rt, answer.and(Ok(())), &before, &buf, work)
-}
-
-fn run_inverse<X: Element>(
-    rt: &HostRuntime,
-    radices: &[u8],
-    lists: &str,
-    work: &mut [X],
-) -> anyhow::Result<()> {
-    let before = elements::<X>(rt.alloc(), lists)?;
-    let mut buf = before.clone()?;
-    let answer = inverse(radices, &mut buf, work);
-    print_end(rt, answer, &before, &buf, work)
+    print_end(rt, answer.map(|_| ()), &before, &buf, work)
 }
 
 fn run_convolve<X: Element>(
@@ -109,8 +100,14 @@ fn run<X: Element>(rt: &HostRuntime, words: [&str; 3], lists: &str) -> anyhow::R
     let mut work = vec![in rt.alloc(); X::mark(); lent.parse::<usize>()?]?;
     // Each word is looked at once, here: an enum of the calls would only name them a second time.
     match call {
-        "transform" => run_transform(rt, &radices, lists, &mut work),
-        "inverse" => run_inverse(rt, &radices, lists, &mut work),
+        "transform" => {
+            let call = |buf: &mut [X], work: &mut [X]| transform(&radices, buf, work).map(Some);
+            run_in_place(rt, call, lists, &mut work)
+        }
+        "inverse" => {
+            let call = |buf: &mut [X], work: &mut [X]| inverse(&radices, buf, work).map(|()| None);
+            run_in_place(rt, call, lists, &mut work)
+        }
         "convolve" => run_convolve(rt, &radices, lists, &mut work),
         _ => Err(anyhow!("no such call")),
     }
@@ -128,6 +125,7 @@ fn case(rt: &HostRuntime, line: &str) -> anyhow::Result<()> {
     ) else {
         return Err(anyhow!("a case begins with four words"));
     };
+    // As with the call: a word that is looked at once.
     match arithmetic {
         "pressure" => run::<Pressure>(rt, [call, plan, lent], lists),
         "path" => run::<Path>(rt, [call, plan, lent], lists),

@@ -32,6 +32,7 @@ fn case(rt: &HostRuntime, line: &str) -> anyhow::Result<()> {
         return Err(anyhow!("a case begins with a call and a room"));
     };
     let room = room.parse()?;
+    // Looked at once, here: an enum of the calls would only name them a second time.
     match (call, words.next()) {
         ("match", Some(lags)) => run_match(rt, room, lags, strokes),
         ("write", None) => run_write(rt, room, strokes),

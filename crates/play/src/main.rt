@@ -91,6 +91,7 @@ fn play_script(rt: &HostRuntime, text: &str) -> anyhow::Result<()> {
     let (first, calls) = text.split_once('\n').unwrap_or((text, ""));
     let (kind, samples) = first.split_once(' ').unwrap_or((first, ""));
     println!(rt; "{kind}")?;
+    // As with a call: a word that is looked at once.
     match kind {
         "pressure" => perform::<Pressure>(rt, samples, calls),
         "path" => perform::<Path>(rt, samples, calls),
