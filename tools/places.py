@@ -1,5 +1,5 @@
 #!/usr/bin/env python3
-"""Lists the places in src/ that may be in an older form: `places.py` counts them, `places.py N` prints those of form N.
+"""Lists the places in src/ that may be in an older form: `places.py` counts them, `places.py FORM` prints those of one form.
 
 A line that is printed is a place to look at; docs/DESIGN-PASS.md says of each what it became or why it stays.
 The exported functions of crate driver are left out, except where they are counted as a whole.
@@ -115,10 +115,10 @@ def proofs():
     return [str(path.relative_to(CRATES)) for path in sorted(CRATES.glob("*/proofs/**/*.antt")) if path.name != "Lib.antt"]
 
 
-FORMS = [kinds, twins, counted, by_hand, repeated, beside, switches, proofs]
+FORMS = {form.__name__: form for form in (kinds, twins, counted, by_hand, repeated, beside, switches, proofs)}
 
 if len(sys.argv) > 1:
-    print("\n".join(FORMS[int(sys.argv[1]) - 1]()))
+    print("\n".join(FORMS[sys.argv[1]]()))
 else:
-    for n, form in enumerate(FORMS, 1):
-        print(f"{n} {len(form()):4} {form.__doc__}")
+    for name, form in FORMS.items():
+        print(f"{name:9} {len(form()):4}  {form.__doc__}")

@@ -38,6 +38,8 @@ pub trait Arithmetic: Copy {
     fn span() -> u32
         ensures { result ≡ meaning.span };
 
+    // Whether sums are exact, and below whether there is a product and a part: asked at run time, since a call over any
+    // arithmetic refuses one that is not what it needs. Traits of their own would leave no such call to refuse.
     fn exact() -> bool
         ensures { result ≡ meaning.exact };
 

@@ -14,6 +14,7 @@ pub struct Sheet<'a, X> {
     n: usize,
 }
 
+// `kept` stands by each call: no type says of a `&mut self` which cells and which length it ends with.
 impl<'a, X: Arithmetic> Sheet<'a, X> {
     // The sheet of `n` samples and their tones in these cells.
     pub fn over(cells: &'a mut [X], n: usize) -> Sheet<'a, X>

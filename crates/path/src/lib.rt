@@ -100,6 +100,7 @@ fn second(a: Path, b: Reduced) -> Residue
     Residue::of(a.u as u64 * b.v.word as u64 + a.v as u64 * b.u.word as u64)
 }
 
+// No more than this arithmetic's numbers, for the inverse that both have in `residues`.
 fn inverse(n: u32) -> Residue
     ensures answer { result.word ≡ inverse n }
 {

@@ -166,6 +166,7 @@ impl Powers<SPAN> for Path {
 
     ghost goes_round = { Laws.goes_round };
 
+    // Each reads this arithmetic's own table: a `static` is no parameter that one function of both could take.
     fn high(e: residues::Residue<SPAN>) -> Reduced
         ensures answer { element result ≡ power (step * (e.word / step)) }
     {

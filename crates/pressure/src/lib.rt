@@ -43,6 +43,7 @@ impl Pressure {
     }
 }
 
+// No more than this arithmetic's numbers, for the inverse that both have in `residues`.
 fn inverse(n: u32) -> Residue
     ensures answer { result.word ≡ inverse n }
 {

@@ -53,6 +53,7 @@ impl Powers<SPAN> for Pressure {
 
     ghost goes_round = { Laws.goes_round };
 
+    // Each reads this arithmetic's own table: a `static` is no parameter that one function of both could take.
     fn high(e: residues::Residue<SPAN>) -> Residue
         ensures answer { counted result.word ≡ powers (step * (e.word / step)) }
     {

@@ -31,7 +31,7 @@ fn play<X: Arithmetic>(sheet: &mut Sheet<'_, X>, call: &Call<'_, X>) -> Answer<X
     }
 }
 
-// Every call in turn, with its answer in the same place.
+// Every call in turn, with its answer in the same place: two lists, since both are lent.
 fn play_all<X: Arithmetic>(
     sheet: &mut Sheet<'_, X>,
     calls: &[Call<'_, X>],

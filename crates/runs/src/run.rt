@@ -16,8 +16,8 @@ pub struct Run {
     part: u32,
     // The turns that those stages made.
     turns: usize,
-    // Whether it was ended, so that it may be let go. No run that a call hands out was. A type that has no drop would say
-    // the same, but a run that is forgotten would then not build, and no edit could show that it is refused.
+    // Whether it was ended, so that it may be let go. A type without a drop would say the same, but by a rule of the project
+    // each promise has an edit that is refused for a fact, and a run that is forgotten would then only not build.
     ended: bool,
     ghost stages: { left ≤ length (radices_of plan) },
     ghost parts: { part ≡ size (drop left (radices_of plan)) },

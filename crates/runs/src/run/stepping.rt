@@ -11,6 +11,7 @@ use arithmetic::Arithmetic;
 use plan::Plan;
 use refusal::Fault;
 
+// `held` stands by each call that hands a run out: a run that was ended is a run too, so its type cannot say it.
 impl Run {
     // The run of a plan, with every stage left.
     fn begin(plan: Plan) -> Run
