@@ -1,5 +1,5 @@
 -- The stages of a plan, taken from its last radix on.
-use Rattle.std.proofs.Common.{◌≡◌, ℕ, ◌+◌, ◌-◌, ◌*◌, ◌%◌, ◌^◌, ◌<◌, ◌≤◌, List, [], ◌∷◌, length, get_or, drop, reverse, sym, ap, ◌∙◌, mul_comm, mul-le-mul_left, mul-add, arith}
+use Rattle.std.proofs.Common.{◌≡◌, ℕ, ◌+◌, ◌-◌, ◌*◌, ◌%◌, ◌^◌, ◌<◌, ◌≤◌, List, [], ◌∷◌, length, get_or, drop, reverse, sym, ap, ◌∙◌, mul_comm, mul-le-mul_left, mul-zero, mul-add, arith}
 use Rattle.std.proofs.lemmas.List.{at_drop_more, drop_all, get_or_default, get_or-reverse, length-reverse}
 use Rattle.arithmetic.specs.Meaning.{Meaning}
 use Rattle.arithmetic.proofs.Divisors.{divides_trans}
@@ -39,10 +39,11 @@ turned_fits {rs} p k n whole =
     let all : n * radix_sum rs ≡ turns rs = ap (λ x. x * radix_sum rs) whole in
     omega (arith, turns_le rs p)
 
--- the stages of the last n radices are done
-pub record Done {A R : Type 0} (m : Meaning A R) (rs : List ℕ) (n len : ℕ) (before after : List A) : Type 0 where
+-- the stages of the last n radices are done, and made so many turns
+pub record Done {A R : Type 0} (m : Meaning A R) (rs : List ℕ) (n len made : ℕ) (before after : List A) : Type 0 where
   pub parts : len ≡ size (drop (length rs - n) rs)
   pub so_far : after ≡ stages m (drop (length rs - n) rs) before
+  pub turned : made ≡ length before * radix_sum (drop (length rs - n) rs)
 
 -- the radix r comes next
 pub record Next (rs : List ℕ) (n r : ℕ) : Type 0 where
@@ -59,12 +60,16 @@ next_from_end rs n r t =
     }
 
 module _ {A R : Type 0} (m : Meaning A R) {rs : List ℕ} where
-  pub none_done : (before : List A) → Done m rs 0 1 before before
+  pub none_done : (before : List A) → Done m rs 0 1 0 before before
   none_done before =
       let none : [] ≡ drop (length rs - 0) rs = sym (drop_all (length rs - 0) rs (omega arith)) in
-      record { parts = ap size none; so_far = stages_end m before ∙ ap (λ x. stages m x before) none }
+      record {
+        parts = ap size none;
+        so_far = stages_end m before ∙ ap (λ x. stages m x before) none;
+        turned = sym (mul-zero (length before)) ∙ ap (λ x. length before * radix_sum x) none;
+      }
 
-  module _ (p : Plan rs) {n r len : ℕ} {before after : List A} (done : Done m rs n len before after) (next : Next rs n r) where
+  module _ (p : Plan rs) {n r len made : ℕ} {before after : List A} (done : Done m rs n len made before after) (next : Next rs n r) where
     low : 0 < length rs - n
     low = let left = next.left in omega arith
 
@@ -89,8 +94,18 @@ module _ {A R : Type 0} (m : Meaning A R) {rs : List ℕ} where
     pub next_whole : size rs % (r * len) ≡ 0
     next_whole = let is = next.is in rw is (block_divides p (length rs - n) len low within done.parts)
 
-    pub next_done : (count : ℕ) → count ≡ n + 1 → (ys : List A) → ys ≡ staged m r len after → Done m rs count (len * r) before ys
-    next_done count more ys made =
+    -- one stage more, which makes t turns
+    pub next_turned : (t : ℕ) → t ≡ length before * r → made + t ≡ length before * radix_sum (drop (length rs - n - 1) rs)
+    next_turned t turns =
+        ap (λ x. made + x) (turns ∙ ap (λ x. length before * x) next.is)
+        ∙ turned_more rs (length rs - n) (length before) made low within done.turned
+
+    pub next_fits : (t : ℕ) → t ≡ length before * r → length before ≡ size rs → made + t < 2 ^ 64
+    next_fits t turns whole =
+        omega (arith, next_turned t turns, turned_fits p (length rs - n - 1) (length before) whole)
+
+    pub next_done : (count t : ℕ) → count ≡ n + 1 → t ≡ length before * r → (ys : List A) → ys ≡ staged m r len after → Done m rs count (len * r) (made + t) before ys
+    next_done count t more turns ys is =
         let k = length rs - n in
         let left = next.left in
         let back : k - 1 ≡ length rs - count = omega arith in
@@ -98,9 +113,10 @@ module _ {A R : Type 0} (m : Meaning A R) {rs : List ℕ} where
         let rest = drop k rs in
         let parts : len * r ≡ size (drop (k - 1) rs) = ap (λ y. len * y) next.is ∙ mul_comm len x ∙ block_size p k len low within done.parts in
         let so_far : ys ≡ stages m (drop (k - 1) rs) before =
-        made ∙ ap (λ y. staged m y len after) next.is ∙ ap (λ y. staged m x y after) done.parts ∙ ap (staged m x (size rest)) done.so_far
+        is ∙ ap (λ y. staged m y len after) next.is ∙ ap (λ y. staged m x y after) done.parts ∙ ap (staged m x (size rest)) done.so_far
         ∙ stages_more m x rest before ∙ at_drop_back (λ y. stages m y before) rs k 0 low within in
         record {
           parts = parts ∙ ap (λ i. size (drop i rs)) back;
           so_far = so_far ∙ ap (λ i. stages m (drop i rs) before) back;
+          turned = next_turned t turns ∙ ap (λ i. length before * radix_sum (drop i rs)) back;
         }

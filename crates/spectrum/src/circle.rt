@@ -13,7 +13,7 @@ pub(crate) fn onward(at: usize, step: usize, span: usize) -> usize
 }
 
 // A place on a circle of `span` places, and how far it is to the next turn.
-#[derive(Clone, Copy)]
+#[derive(Debug, Clone, Copy, PartialEq, Eq)]
 pub struct Angle {
     at: usize,
     step: usize,

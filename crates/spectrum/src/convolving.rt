@@ -1,5 +1,5 @@
 // The cyclic convolution of two lists of samples, by way of their spectra.
-ghost use Rattle.std.specs.Prelude.{◌≡◌, ◌+◌, ◌%◌, ◌≤◌, true, length, replicate, is_ok, if◌then◌else◌, Ok, OnOk};
+ghost use Rattle.std.specs.Prelude.{◌≡◌, ◌+◌, ◌≤◌, true, length, replicate, is_ok, if◌then◌else◌, Ok, OnOk};
 ghost use Rattle.std.specs.Result.{result_and, result_map_both};
 ghost use Rattle.plan.specs.Radices.{size, largest_radix};
 ghost use Rattle.plan.specs.Planned.{radices_of};
@@ -32,6 +32,7 @@ fn multiply<X: Arithmetic>(tones: &mut [X], others: &[X])
 
 impl<X: Arithmetic> Suited<X> {
     // The tones of samples that stay where they are, into `out`.
+    // The lengths of lent slices stay in `requires`: a struct of two slices was tried, and its caller's proof does not learn what they hold afterwards.
     fn tones_into(&self, samples: &[X], out: &mut [X], scratch: &mut [X])
         requires samples { length samples.now ≡ size (radices_of self.now.plan) }
         requires out { length out.old ≡ size (radices_of self.now.plan) }

@@ -1,6 +1,6 @@
 // The engine on lent slices: samples are dealt, then columns make blocks, blocks a stage, and the stages the tones.
-ghost use Rattle.std.specs.Prelude.{◌≡◌, ℕ, ◌+◌, ◌*◌, ◌%◌, ◌<◌, ◌≤◌, length, replicate};
-ghost use Rattle.plan.specs.Radices.{size, largest_radix, largest_size, Each};
+ghost use Rattle.std.specs.Prelude.{◌≡◌, ℕ, ◌+◌, ◌*◌, ◌%◌, ◌^◌, ◌<◌, ◌≤◌, length, replicate};
+ghost use Rattle.plan.specs.Radices.{size, turns, largest_radix, largest_size, Each};
 ghost use Rattle.plan.specs.Dealing.{dealt, place};
 ghost use Rattle.plan.specs.Planned.{radices_of};
 ghost use Rattle.spectra.specs.Tones.{tone, combine};
@@ -43,10 +43,8 @@ impl<X: Arithmetic> Shape<X> {
         q * self.len + j
     }
 
-    // How long the lent slices are stays in `requires`, here and below: a struct that holds two of them gets a proof,
-    // but what they hold at its end is lost to the proof of the caller.
-
     // Tone `i * len + j` of the block.
+    // The lengths of lent slices stay in `requires`, here and below: a struct of two slices was tried, and its caller's proof does not learn what they hold afterwards.
     fn output(&self, block: &[X], i: usize, j: usize) -> X
         requires cell { (i < self.now.radix) × (j < self.now.len) }
         requires whole { length block.now ≡ self.now.radix * self.now.len }
@@ -92,17 +90,21 @@ impl<X: Arithmetic> Shape<X> {
         }
     }
 
-    // The stage of the radix, where those after it have the product `len`: every block.
-    pub(crate) fn stage(&self, buf: &mut [X], scratch: &mut [X])
+    // The stage of the radix, where those after it have the product `len`: every block. Answers the turns made.
+    pub(crate) fn stage(&self, buf: &mut [X], scratch: &mut [X]) -> usize
         requires whole { length buf.old % (self.now.radix * self.now.len) ≡ 0 }
+        requires fits { length buf.old < 2 ^ 32 }
         requires scratch { self.now.radix ≤ length scratch.old }
         ensures after { buf.new ≡ staged X.Arithmetic.meaning self.now.radix self.now.len buf.old }
+        ensures turns { result ≡ length buf.old * self.now.radix }
     {
         let size = self.radix * self.len;
         // By number: tried, and after `for block in buf.chunks_exact_mut(size)` a proof knows nothing of what was written.
         for b in 0..buf.len() / size {
             self.combine(&mut buf[b * size..(b + 1) * size], scratch);
         }
+        // Each tone is a sum of as many turned parts as the radix says.
+        buf.len() * self.radix
     }
 }
 
@@ -133,18 +135,21 @@ impl<X: Arithmetic> Suited<X> {
         self.scatter(&work[0..n], buf);
     }
 
-    // Every stage of the plan, the last radix first.
-    pub(crate) fn stages(&self, buf: &mut [X], scratch: &mut [X])
+    // Every stage of the plan, the last radix first. Answers the turns made.
+    pub(crate) fn stages(&self, buf: &mut [X], scratch: &mut [X]) -> usize
         requires whole { length buf.old ≡ size (radices_of self.now.plan) }
         requires scratch { largest_radix ≤ length scratch.old }
         ensures after { buf.new ≡ every_stage X.Arithmetic.meaning (radices_of self.now.plan) buf.old }
+        ensures turns { result ≡ turns (radices_of self.now.plan) }
     {
         let mut len = 1;
+        let mut made = 0;
         for r in self.plan.radices().iter().rev() {
             let radix = *r as usize;
-            Shape::new(radix, len).stage(buf, scratch);
+            made += Shape::new(radix, len).stage(buf, scratch);
             len *= radix;
         }
+        made
     }
 }
 

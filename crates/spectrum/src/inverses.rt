@@ -1,5 +1,5 @@
 // The inverse: the samples of tones, in the buffer where these were.
-ghost use Rattle.std.specs.Prelude.{◌≡◌, ◌+◌, ◌%◌, ◌^◌, ◌<◌, ◌≤◌, true, List, map, length, replicate, is_ok, if◌then◌else◌, Ok, OnOk};
+ghost use Rattle.std.specs.Prelude.{◌≡◌, ◌+◌, ◌^◌, ◌<◌, ◌≤◌, true, List, map, length, replicate, is_ok, if◌then◌else◌, Ok, OnOk};
 ghost use Rattle.std.specs.Result.{result_and, result_map_both};
 ghost use Rattle.plan.specs.Radices.{size, largest_radix};
 ghost use Rattle.plan.specs.Planned.{radices_of};
@@ -43,6 +43,7 @@ fn part_each<X: Arithmetic>(buf: &mut [X])
 
 impl<X: Arithmetic> Suited<X> {
     // The inverse of the tones in `buf`, in their place, and then zeros in `work`.
+    // The lengths of lent slices stay in `requires`: a struct of two slices was tried, and its caller's proof does not learn what they hold afterwards.
     pub(crate) fn restore(&self, buf: &mut [X], work: &mut [X])
         requires full { X.Arithmetic.meaning.full ≡ true }
         requires whole { length buf.old ≡ size (radices_of self.now.plan) }

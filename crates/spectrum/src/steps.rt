@@ -56,7 +56,7 @@ pub fn stage<X: Arithmetic>(
     ensures work { work.new ≡ (if is_ok result then replicate (length work.old) X.Arithmetic.meaning.zero else work.old) }
 {
     stage_suits::<X>(radix, len, buf.len(), work.len())?;
-    Shape::new(radix as usize, len as usize).stage(buf, work);
+    let made = Shape::new(radix as usize, len as usize).stage(buf, work);
     clear(work);
-    Ok(buf.len() * radix as usize)
+    Ok(made)
 }

@@ -1,6 +1,6 @@
 // The transform: the tones of samples, in the buffer where these were.
-ghost use Rattle.std.specs.Prelude.{◌≡◌, ◌+◌, ◌%◌, ◌≤◌, true, length, replicate, is_ok, if◌then◌else◌, OnOk};
-ghost use Rattle.plan.specs.Radices.{size, largest_radix};
+ghost use Rattle.std.specs.Prelude.{◌≡◌, ◌+◌, ◌≤◌, true, length, replicate, is_ok, if◌then◌else◌, OnOk};
+ghost use Rattle.plan.specs.Radices.{size, turns, largest_radix};
 ghost use Rattle.plan.specs.Planned.{radices_of};
 ghost use Rattle.spectra.specs.Tones.{tones};
 ghost use Rattle.spectra.specs.SpectraLaws.{TonesOf};
@@ -13,17 +13,20 @@ use arithmetic::Arithmetic;
 use refusal::Fault;
 
 impl<X: Arithmetic> Suited<X> {
-    // The recursion's tones of the samples in `buf`, in their place, and then zeros in `work`.
-    fn tones_in_place(&self, buf: &mut [X], work: &mut [X])
+    // The recursion's tones of the samples in `buf`, in their place, and then zeros in `work`. Answers the turns made.
+    // The lengths of lent slices stay in `requires`: a struct of two slices was tried, and its caller's proof does not learn what they hold afterwards.
+    fn tones_in_place(&self, buf: &mut [X], work: &mut [X]) -> usize
         requires whole { length buf.old ≡ size (radices_of self.now.plan) }
         requires room { length buf.old + largest_radix ≤ length work.old }
         ensures after { buf.new ≡ tones X.Arithmetic.meaning (radices_of self.now.plan) buf.old }
         ensures sums { X.Arithmetic.meaning.exact ≡ true → TonesOf X.Arithmetic.meaning buf.old buf.new }
         ensures work { work.new ≡ replicate (length work.old) X.Arithmetic.meaning.zero }
+        ensures turns { result ≡ turns (radices_of self.now.plan) }
     {
         self.deal(buf, work);
-        self.stages(buf, work);
+        let made = self.stages(buf, work);
         clear(work);
+        made
     }
 }
 
@@ -41,6 +44,5 @@ pub fn transform<X: Arithmetic>(
     ensures work { work.new ≡ (if is_ok result then replicate (length work.old) X.Arithmetic.meaning.zero else work.old) }
 {
     let suited = suiting::<X>(radices, buf.len(), work.len())?;
-    suited.tones_in_place(buf, work);
-    Ok(suited.plan.turns())
+    Ok(suited.tones_in_place(buf, work))
 }

@@ -28,10 +28,10 @@ loop-b-preserved g c =
     let taken : (from + n) - from ≡ n = omega arith in
     rw (← next) (rw taken (blocks_more (combine m s.radix s.len) n (length c.args.buf.now / n) c.combine.new.block c.loop-b.invariant c.loop-b-test.true within (rw part at made) (ap length made ∙ combine_length m s.radix s.len _)))
 
-pub returns : goal.returns
+pub returns-clause-after : goal.returns-clause-after
 unfolding staged
-returns g c =
+returns-clause-after g c =
     let s = c.args.self.now in
     let n = s.radix * s.len in
     let end : c.loop-b.b ≡ length c.args.buf.now / n = omega arith in
-    record { after = blocks_all (combine g.X.Arithmetic.meaning s.radix s.len) n (length c.args.buf.now / n) c.loop-b.invariant end }
+    blocks_all (combine g.X.Arithmetic.meaning s.radix s.len) n (length c.args.buf.now / n) c.loop-b.invariant end

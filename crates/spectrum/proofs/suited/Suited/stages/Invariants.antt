@@ -5,4 +5,4 @@ use Rattle.spectrum.proofs.suited.Suited.stages.Given as goal
 
 abbrev pub invariant-loop-r : goal.invariant-loop-r
 invariant-loop-r g l =
-    Done g.X.Arithmetic.meaning (radices_of l.self.plan) (length l.yielded) l.len l.initial.buf l.buf
+    Done g.X.Arithmetic.meaning (radices_of l.self.plan) (length l.yielded) l.len l.made l.initial.buf l.buf
