@@ -1,6 +1,5 @@
 -- What a call comes to for C: a status of three numbers, an answer that is written out, and lists that are lent.
-use Rattle.std.specs.Prelude.{cond, List, ◌++◌, length, drop, replicate, is_ok, Ok, Err, Result}
-use Rattle.arithmetic.specs.Meaning.{Meaning}
+use Rattle.std.specs.Prelude.{List, ◌++◌, length, drop, Ok, Err, Result}
 use Rattle.refusal.specs.declared.Fault.{Fault}
 use Rattle.refusal.specs.Faults.{number_of, layer_of, place_of, layer_number}
 use Rattle.crossing.specs.declared.status.Status.{Status}
@@ -27,11 +26,3 @@ answer_or old (Err f) = old
 abbrev pub in_front : {X : Type 0} → Result (List X) Fault → List X → List X
 in_front (Ok xs) old = xs ++ drop (length xs) old
 in_front (Err f) old = old
-
--- what a list becomes where the call is granted; a refusal leaves it
-abbrev pub where_granted : {X Y : Type 0} → Result Y Fault → List X → List X → List X
-where_granted r new old = cond (is_ok r) new old
-
--- the work, which holds zeros after a granted call
-abbrev pub cleared : {A R Y : Type 0} → Meaning A R → Result Y Fault → List A → List A
-cleared m r work = where_granted r (replicate (length work) m.zero) work

@@ -7,11 +7,11 @@ use Rattle.plan.specs.Radices.{size, turns, Plan}
 use Rattle.refusal.specs.declared.Fault.{Fault}
 use Rattle.refusal.specs.declared.Fault.TheVariants.{NoStage, StagesLeft}
 use Rattle.spectra.specs.ByBlocks.{ByBlocks}
-use Rattle.spectrum.specs.Granted.{plans, divided, lent}
+use Rattle.spectrum.specs.Granted.{plans, divided, lent, where_granted, cleared}
 use Rattle.runs.specs.Runs.{begun, fresh}
 use Rattle.spectra.specs.Stages.{staged}
 use Rattle.crossing.specs.declared.status.Status.{Status}
-use Rattle.crossing.specs.Answers.{status_of, answer_or, where_granted, cleared}
+use Rattle.crossing.specs.Answers.{status_of, answer_or}
 
 -- how many stages are left
 abbrev pub left : List ℕ → ℕ → ℕ

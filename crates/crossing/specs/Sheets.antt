@@ -7,7 +7,8 @@ use Rattle.cells.specs.Plain.{PlainCall}
 use Rattle.cells.specs.Cells.{granted, cells_after, heard}
 use Rattle.cells.specs.Opening.{opened, filled}
 use Rattle.crossing.specs.declared.status.Status.{Status}
-use Rattle.crossing.specs.Answers.{status_of, answer_or, where_granted, cleared}
+use Rattle.spectrum.specs.Granted.{where_granted, cleared}
+use Rattle.crossing.specs.Answers.{status_of, answer_or}
 
 pub record Opens {A R : Type 0} (m : Meaning A R) (rs : List ℕ) (n : ℕ) (cells work : List A) (status : Status) (n' : ℕ) (cells' work' : List A) : Type 0 where
   pub status_is : status ≡ status_of (opened m rs (length cells) (length work))

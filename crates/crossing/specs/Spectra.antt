@@ -1,11 +1,11 @@
 -- The transform, the inverse and the convolution for C: the status, and then what is written out and what lent lists hold.
 use Rattle.std.specs.Prelude.{◌≡◌, ℕ, List, length}
 use Rattle.arithmetic.specs.Meaning.{Meaning}
-use Rattle.spectrum.specs.Granted.{transformed, inverted, convolved}
+use Rattle.spectrum.specs.Granted.{transformed, inverted, convolved, where_granted, cleared}
 use Rattle.spectra.specs.Spectra.{inverse, convolution}
 use Rattle.spectra.specs.Tones.{tones}
 use Rattle.crossing.specs.declared.status.Status.{Status}
-use Rattle.crossing.specs.Answers.{status_of, answer_or, where_granted, cleared}
+use Rattle.crossing.specs.Answers.{status_of, answer_or}
 
 pub record Transforms {A R : Type 0} (m : Meaning A R) (rs : List ℕ) (turns : ℕ) (buf work : List A) (status : Status) (turns' : ℕ) (buf' work' : List A) : Type 0 where
   pub status_is : status ≡ status_of (transformed m.span rs (length buf) (length work))

@@ -1,6 +1,6 @@
 // Runs that are held as numbers: the radices of the plan, and how many stages are done.
 ghost use Rattle.std.specs.Prelude.{◌≡◌, length};
-ghost use Rattle.crossing.specs.Answers.{where_granted, cleared};
+ghost use Rattle.spectrum.specs.Granted.{where_granted, cleared};
 ghost use Rattle.crossing.specs.Runs.{stepping, next_stage, finishing, Deals, Steps, Finishes};
 
 use crate::status::{Status, answered, settled};

@@ -14,7 +14,8 @@ use Rattle.matching.specs.Matched.{spans, carried, lengths, matched}
 use Rattle.handover.specs.declared.matches.Lags.{Lags}
 use Rattle.handover.specs.declared.matches.Sum.{Sum}
 use Rattle.crossing.specs.declared.status.Status.{Status}
-use Rattle.crossing.specs.Answers.{status_of, answer_or, where_granted}
+use Rattle.spectrum.specs.Granted.{where_granted}
+use Rattle.crossing.specs.Answers.{status_of, answer_or}
 use Rattle.handover.specs.Matching.{sum, lags, Matches}
 use Rattle.handover.proofs.Lent.{sized_few, sized_either}
 

@@ -7,14 +7,14 @@ use Rattle.pressure.specs.Pressures.{span as pressure_span}
 use Rattle.stroke.specs.Contents.{Contents}
 use Rattle.refusal.specs.declared.Fault.{Fault}
 use Rattle.refusal.specs.declared.Fault.TheVariants.{Length}
-use Rattle.spectrum.specs.Granted.{divided}
+use Rattle.spectrum.specs.Granted.{divided, where_granted}
 use Rattle.matching.specs.declared.matched.Match.{Match}
 use Rattle.matching.specs.Lags.{matches}
 use Rattle.matching.specs.Matched.{matched}
 use Rattle.handover.specs.declared.matches.Lags.{Lags}
 use Rattle.handover.specs.declared.matches.Sum.{Sum}
 use Rattle.crossing.specs.declared.status.Status.{Status}
-use Rattle.crossing.specs.Answers.{status_of, answer_or, where_granted}
+use Rattle.crossing.specs.Answers.{status_of, answer_or}
 
 -- the sum of a lag
 abbrev pub sum : ℤ × ℤ → Sum

@@ -4,7 +4,7 @@ ghost use Rattle.std.specs.Result.{result_map_both};
 ghost use Rattle.stroke.specs.Contents.{most_samples};
 ghost use Rattle.matching.specs.Lags.{matches};
 ghost use Rattle.matching.specs.Matched.{matched};
-ghost use Rattle.crossing.specs.Answers.{where_granted};
+ghost use Rattle.spectrum.specs.Granted.{where_granted};
 ghost use Rattle.handover.specs.Lending.{pressure_held, kept, lent_stroke};
 ghost use Rattle.handover.specs.Matching.{sum as sum_of, lags as lags_of, too_long, Matches};
 

@@ -1,11 +1,12 @@
 // A list of calls, played on a sheet: each is answered as the plain sheet answers it.
 #![tactic(auto)]
 
-ghost use Rattle.std.specs.Prelude.{◌≡◌, map, length, replicate, is_ok, if◌then◌else◌, OnOk};
+ghost use Rattle.std.specs.Prelude.{◌≡◌, map, length, OnOk};
 ghost use Rattle.cells.specs.Holding.{Holds};
 ghost use Rattle.cells.specs.Played.{sheet_answer, sheet_after, sheet_finally, sheet_answers};
 ghost use Rattle.cells.specs.Lent.{cells_of, length_of, Kept};
 ghost use Rattle.replay.specs.Replaying.{plainly, replayed, answers_to, samples_left, cells_played};
+ghost use Rattle.spectrum.specs.Granted.{where_granted, cleared};
 
 use arithmetic::Arithmetic;
 use cells::Answer;
@@ -61,10 +62,10 @@ pub fn replay<X: Arithmetic>(
 where
     X::Reading: Copy,
     ensures answer { result ≡ replayed X.Arithmetic.meaning radices.now (length cells.old) (length work.old) (length calls.now) (length answers.old) }
-    ensures answers { answers.new ≡ (if is_ok result then answers_to X.Arithmetic.meaning radices.now calls.now cells.old else answers.old) }
-    ensures after { cells.new ≡ (if is_ok result then cells_played X.Arithmetic.meaning radices.now calls.now cells.old else cells.old) }
+    ensures answers { answers.new ≡ where_granted result (answers_to X.Arithmetic.meaning radices.now calls.now cells.old) answers.old }
+    ensures after { cells.new ≡ where_granted result (cells_played X.Arithmetic.meaning radices.now calls.now cells.old) cells.old }
     ensures sheet { OnOk result (Holds X.Arithmetic.meaning (samples_left X.Arithmetic.meaning radices.now calls.now cells.old) cells.new) }
-    ensures work { work.new ≡ (if is_ok result then replicate (length work.old) X.Arithmetic.meaning.zero else work.old) }
+    ensures work { work.new ≡ cleared X.Arithmetic.meaning result work.old }
 {
     sized::<X>(radices, cells.len())?;
     if answers.len() != calls.len() {

@@ -1,7 +1,7 @@
 // Runs that are driven from their samples on: part of the way, and all of it.
-ghost use Rattle.std.specs.Prelude.{◌≡◌, length, take, drop, replicate, is_ok, IfOk, if◌then◌else◌, MatchResult};
+ghost use Rattle.std.specs.Prelude.{◌≡◌, length, take, drop, IfOk, MatchResult};
 ghost use Rattle.spectra.specs.Tones.{tones};
-ghost use Rattle.spectrum.specs.Granted.{transformed};
+ghost use Rattle.spectrum.specs.Granted.{transformed, where_granted, cleared};
 ghost use Rattle.runs.specs.Runs.{as_seen, IsHeld, begun, polled_run};
 ghost use Rattle.spectra.specs.ByBlocks.{ByBlocks};
 
@@ -21,7 +21,7 @@ pub fn poll<X: Arithmetic>(
     ensures answer { as_seen result ≡ begun X.Arithmetic.meaning.span radices.now (length buf.old) (length work.old) (polled_run radices.now polls) }
     ensures held { IfOk result IsHeld }
     ensures after { MatchResult result (λ run. ByBlocks X.Arithmetic.meaning (take run.left radices.now) (drop run.left radices.now) buf.old buf.new) (λ _. buf.new ≡ buf.old) }
-    ensures work { work.new ≡ (if is_ok result then replicate (length work.old) X.Arithmetic.meaning.zero else work.old) }
+    ensures work { work.new ≡ cleared X.Arithmetic.meaning result work.old }
 {
     let mut run = Run::deal(radices, buf, work)?;
     let count = polls.min(run.left());
@@ -38,8 +38,8 @@ pub fn poll_through<X: Arithmetic>(
     work: &mut [X],
 ) -> Result<usize, Fault>
     ensures answer { result ≡ transformed X.Arithmetic.meaning.span radices.now (length buf.old) (length work.old) }
-    ensures after { buf.new ≡ (if is_ok result then tones X.Arithmetic.meaning radices.now buf.old else buf.old) }
-    ensures work { work.new ≡ (if is_ok result then replicate (length work.old) X.Arithmetic.meaning.zero else work.old) }
+    ensures after { buf.new ≡ where_granted result (tones X.Arithmetic.meaning radices.now buf.old) buf.old }
+    ensures work { work.new ≡ cleared X.Arithmetic.meaning result work.old }
 {
     let run = poll(radices, radices.len(), buf, work)?;
     Ok(run.finish().unwrap())

@@ -1,7 +1,8 @@
 // Opening a sheet: its cells are checked, and then the second half takes the tones of the first.
-ghost use Rattle.std.specs.Prelude.{◌≡◌, length, take, replicate, is_ok, IfOk, if◌then◌else◌};
+ghost use Rattle.std.specs.Prelude.{◌≡◌, length, take, IfOk};
 ghost use Rattle.cells.specs.Holding.{Holds};
 ghost use Rattle.cells.specs.Opening.{sized as sized_for, opened, filled};
+ghost use Rattle.spectrum.specs.Granted.{where_granted, cleared};
 
 use arithmetic::Arithmetic;
 use cells::fits;
@@ -22,9 +23,9 @@ pub fn sized<X: Arithmetic>(radices: &[u8], len: usize) -> Result<usize, Fault>
 // A refusal changes nothing, and a granted call leaves zeros in `work`.
 pub fn open<X: Arithmetic>(radices: &[u8], cells: &mut [X], work: &mut [X]) -> Result<usize, Fault>
     ensures answer { result ≡ opened X.Arithmetic.meaning radices.now (length cells.old) (length work.old) }
-    ensures after { cells.new ≡ (if is_ok result then filled X.Arithmetic.meaning radices.now cells.old else cells.old) }
+    ensures after { cells.new ≡ where_granted result (filled X.Arithmetic.meaning radices.now cells.old) cells.old }
     ensures sheet { IfOk result (λ n. Holds X.Arithmetic.meaning (take n cells.old) cells.new) }
-    ensures work { work.new ≡ (if is_ok result then replicate (length work.old) X.Arithmetic.meaning.zero else work.old) }
+    ensures work { work.new ≡ cleared X.Arithmetic.meaning result work.old }
 {
     let n = sized::<X>(radices, cells.len())?;
     if work.len() < n + SCRATCH {

@@ -1,5 +1,5 @@
--- Which calls are granted and what they answer: the lower number refuses first.
-use Rattle.std.specs.Prelude.{ℕ, ◌+◌, ◌*◌, ◌%◌, ◌^◌, Bool, cond, List, [], ◌∷◌, Ok, Err, Result, ◌==◌, nat_le}
+-- Which calls are granted, what they answer and what they leave: the lower number refuses first.
+use Rattle.std.specs.Prelude.{ℕ, ◌+◌, ◌*◌, ◌%◌, ◌^◌, Bool, cond, List, [], ◌∷◌, length, replicate, is_ok, Ok, Err, Result, ◌==◌, nat_le}
 use Rattle.std.specs.Result.{result_and, result_map_both}
 use Rattle.arithmetic.specs.Meaning.{Meaning}
 use Rattle.plan.specs.Radices.{size, turns}
@@ -63,3 +63,11 @@ inverted m rs buf work =
 abbrev pub convolved : {A R : Type 0} → Meaning A R → List ℕ → ℕ → ℕ → ℕ → ℕ → Result (Unit {0}) Fault
 convolved m rs a b out work =
     result_and (plans rs) (result_and (divided m.span (size rs)) (result_and (filled m.full) (result_and (whole (size rs) a) (result_and (whole (size rs) b) (lent (size rs) out work)))))
+
+-- what a list becomes where the call is granted; a refusal leaves it
+abbrev pub where_granted : {X Y E : Type 0} → Result Y E → List X → List X → List X
+where_granted r new old = cond (is_ok r) new old
+
+-- the work, which holds zeros after a granted call
+abbrev pub cleared : {A R Y E : Type 0} → Meaning A R → Result Y E → List A → List A
+cleared m r work = where_granted r (replicate (length work) m.zero) work

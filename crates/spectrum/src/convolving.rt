@@ -1,11 +1,11 @@
 // The cyclic convolution of two lists of samples, by way of their spectra.
-ghost use Rattle.std.specs.Prelude.{◌≡◌, ◌+◌, ◌≤◌, true, length, replicate, is_ok, if◌then◌else◌, Ok, OnOk};
+ghost use Rattle.std.specs.Prelude.{◌≡◌, ◌+◌, ◌≤◌, true, length, replicate, Ok, OnOk};
 ghost use Rattle.std.specs.Result.{result_and, result_map_both};
 ghost use Rattle.plan.specs.Radices.{size, largest_radix};
 ghost use Rattle.plan.specs.Planned.{radices_of};
 ghost use Rattle.spectra.specs.Tones.{tones as tones_of};
 ghost use Rattle.spectra.specs.Spectra.{spectrum, spectra_product, convolution};
-ghost use Rattle.spectrum.specs.Granted.{whole as whole_for, convolved};
+ghost use Rattle.spectrum.specs.Granted.{whole as whole_for, convolved, where_granted, cleared};
 
 use crate::inverses::full;
 use crate::suited::Suited;
@@ -93,9 +93,9 @@ pub fn convolve<X: Arithmetic>(
     work: &mut [X],
 ) -> Result<(), Fault>
     ensures answer { result ≡ convolved X.Arithmetic.meaning radices.now (length a.now) (length b.now) (length out.old) (length work.old) }
-    ensures after { out.new ≡ (if is_ok result then convolution X.Arithmetic.meaning a.now b.now else out.old) }
+    ensures after { out.new ≡ where_granted result (convolution X.Arithmetic.meaning a.now b.now) out.old }
     ensures spectra { OnOk result (spectrum X.Arithmetic.meaning out.new ≡ spectra_product X.Arithmetic.meaning (spectrum X.Arithmetic.meaning a.now) (spectrum X.Arithmetic.meaning b.now)) }
-    ensures work { work.new ≡ (if is_ok result then replicate (length work.old) X.Arithmetic.meaning.zero else work.old) }
+    ensures work { work.new ≡ cleared X.Arithmetic.meaning result work.old }
 {
     let suited = convolvable::<X>(radices, a.len(), b.len(), out.len(), work.len())?;
     suited.convolve_by(a, b, out, work);

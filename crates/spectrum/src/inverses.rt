@@ -1,12 +1,12 @@
 // The inverse: the samples of tones, in the buffer where these were.
-ghost use Rattle.std.specs.Prelude.{◌≡◌, ◌+◌, ◌^◌, ◌<◌, ◌≤◌, true, List, map, length, replicate, is_ok, if◌then◌else◌, Ok, OnOk};
+ghost use Rattle.std.specs.Prelude.{◌≡◌, ◌+◌, ◌^◌, ◌<◌, ◌≤◌, true, List, map, length, replicate, Ok, OnOk};
 ghost use Rattle.std.specs.Result.{result_and, result_map_both};
 ghost use Rattle.plan.specs.Radices.{size, largest_radix};
 ghost use Rattle.plan.specs.Planned.{radices_of};
 ghost use Rattle.spectra.specs.Spectra.{inverse as inverse_of};
 ghost use Rattle.spectra.specs.SpectraLaws.{TonesOf};
 ghost use Rattle.spectra.specs.Moves.{mirrored};
-ghost use Rattle.spectrum.specs.Granted.{filled, inverted};
+ghost use Rattle.spectrum.specs.Granted.{filled, inverted, where_granted, cleared};
 
 use crate::engine::clear;
 use crate::suited::Suited;
@@ -74,9 +74,9 @@ fn invertible<X: Arithmetic>(radices: &[u8], buf: usize, work: usize) -> Result<
 // A refusal changes nothing, and a granted call leaves zeros in `work`.
 pub fn inverse<X: Arithmetic>(radices: &[u8], buf: &mut [X], work: &mut [X]) -> Result<(), Fault>
     ensures answer { result ≡ inverted X.Arithmetic.meaning radices.now (length buf.old) (length work.old) }
-    ensures after { buf.new ≡ (if is_ok result then inverse_of X.Arithmetic.meaning buf.old else buf.old) }
+    ensures after { buf.new ≡ where_granted result (inverse_of X.Arithmetic.meaning buf.old) buf.old }
     ensures restores { OnOk result ((a : List X) → TonesOf X.Arithmetic.meaning a buf.old → buf.new ≡ map X.Arithmetic.meaning.value a) }
-    ensures work { work.new ≡ (if is_ok result then replicate (length work.old) X.Arithmetic.meaning.zero else work.old) }
+    ensures work { work.new ≡ cleared X.Arithmetic.meaning result work.old }
 {
     let suited = invertible::<X>(radices, buf.len(), work.len())?;
     suited.restore(buf, work);

@@ -1,10 +1,10 @@
 // Dealing and one stage as calls of their own, for a caller that takes a transform step by step.
-ghost use Rattle.std.specs.Prelude.{◌≡◌, length, replicate, is_ok, if◌then◌else◌};
+ghost use Rattle.std.specs.Prelude.{◌≡◌, length};
 ghost use Rattle.std.specs.Result.{result_map_both};
 ghost use Rattle.plan.specs.Dealing.{dealt};
 ghost use Rattle.plan.specs.Planned.{radices_of};
 ghost use Rattle.spectra.specs.Stages.{staged};
-ghost use Rattle.spectrum.specs.Granted.{suited, stage_suited, stage_turned};
+ghost use Rattle.spectrum.specs.Granted.{suited, stage_suited, stage_turned, where_granted, cleared};
 
 use crate::engine::clear;
 use crate::shape::Shape;
@@ -17,8 +17,8 @@ use refusal::Fault;
 // A refusal changes nothing, and a granted call leaves zeros in `work`.
 pub fn deal<X: Arithmetic>(radices: &[u8], buf: &mut [X], work: &mut [X]) -> Result<Plan, Fault>
     ensures answer { result_map_both radices_of (λ f. f) result ≡ suited X.Arithmetic.meaning.span radices.now (length buf.old) (length work.old) radices.now }
-    ensures after { buf.new ≡ (if is_ok result then dealt X.Arithmetic.meaning.zero radices.now buf.old else buf.old) }
-    ensures work { work.new ≡ (if is_ok result then replicate (length work.old) X.Arithmetic.meaning.zero else work.old) }
+    ensures after { buf.new ≡ where_granted result (dealt X.Arithmetic.meaning.zero radices.now buf.old) buf.old }
+    ensures work { work.new ≡ cleared X.Arithmetic.meaning result work.old }
 {
     let suited = suiting::<X>(radices, buf.len(), work.len())?;
     suited.deal(buf, work);
@@ -52,8 +52,8 @@ pub fn stage<X: Arithmetic>(
     work: &mut [X],
 ) -> Result<usize, Fault>
     ensures answer { result ≡ stage_turned X.Arithmetic.meaning.span radix len (length buf.old) (length work.old) }
-    ensures after { buf.new ≡ (if is_ok result then staged X.Arithmetic.meaning radix len buf.old else buf.old) }
-    ensures work { work.new ≡ (if is_ok result then replicate (length work.old) X.Arithmetic.meaning.zero else work.old) }
+    ensures after { buf.new ≡ where_granted result (staged X.Arithmetic.meaning radix len buf.old) buf.old }
+    ensures work { work.new ≡ cleared X.Arithmetic.meaning result work.old }
 {
     stage_suits::<X>(radix, len, buf.len(), work.len())?;
     let made = Shape::new(radix as usize, len as usize).stage(buf, work);

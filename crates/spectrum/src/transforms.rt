@@ -1,10 +1,10 @@
 // The transform: the tones of samples, in the buffer where these were.
-ghost use Rattle.std.specs.Prelude.{◌≡◌, ◌+◌, ◌≤◌, true, length, replicate, is_ok, if◌then◌else◌, OnOk};
+ghost use Rattle.std.specs.Prelude.{◌≡◌, ◌+◌, ◌≤◌, true, length, replicate, OnOk};
 ghost use Rattle.plan.specs.Radices.{size, turns, largest_radix};
 ghost use Rattle.plan.specs.Planned.{radices_of};
 ghost use Rattle.spectra.specs.Tones.{tones};
 ghost use Rattle.spectra.specs.SpectraLaws.{TonesOf};
-ghost use Rattle.spectrum.specs.Granted.{transformed};
+ghost use Rattle.spectrum.specs.Granted.{transformed, where_granted, cleared};
 
 use crate::engine::clear;
 use crate::suited::Suited;
@@ -39,9 +39,9 @@ pub fn transform<X: Arithmetic>(
     work: &mut [X],
 ) -> Result<usize, Fault>
     ensures answer { result ≡ transformed X.Arithmetic.meaning.span radices.now (length buf.old) (length work.old) }
-    ensures after { buf.new ≡ (if is_ok result then tones X.Arithmetic.meaning radices.now buf.old else buf.old) }
+    ensures after { buf.new ≡ where_granted result (tones X.Arithmetic.meaning radices.now buf.old) buf.old }
     ensures sums { OnOk result (X.Arithmetic.meaning.exact ≡ true → TonesOf X.Arithmetic.meaning buf.old buf.new) }
-    ensures work { work.new ≡ (if is_ok result then replicate (length work.old) X.Arithmetic.meaning.zero else work.old) }
+    ensures work { work.new ≡ cleared X.Arithmetic.meaning result work.old }
 {
     let suited = suiting::<X>(radices, buf.len(), work.len())?;
     Ok(suited.tones_in_place(buf, work))

@@ -1,10 +1,11 @@
 // The calls of a run: dealing begins it, each stage takes it one radix on, and finishing or giving up ends it.
-ghost use Rattle.std.specs.Prelude.{◌≡◌, ◌*◌, ◌<◌, length, replicate, is_ok, IfOk, if◌then◌else◌};
+ghost use Rattle.std.specs.Prelude.{◌≡◌, ◌*◌, ◌<◌, length, replicate, IfOk};
 ghost use Rattle.plan.specs.Radices.{size};
 ghost use Rattle.plan.specs.Dealing.{dealt};
 ghost use Rattle.plan.specs.Planned.{radices_of};
 ghost use Rattle.spectra.specs.Stages.{staged};
 ghost use Rattle.runs.specs.Runs.{seen, as_seen, IsHeld, next_radix, part_size, begun, fresh, ready as ready_for, onward, stepped, finished, resumed};
+ghost use Rattle.spectrum.specs.Granted.{where_granted, cleared};
 
 use super::Run;
 use arithmetic::Arithmetic;
@@ -65,8 +66,8 @@ impl Run {
     pub fn deal<X: Arithmetic>(radices: &[u8], buf: &mut [X], work: &mut [X]) -> Result<Run, Fault>
         ensures answer { as_seen result ≡ begun X.Arithmetic.meaning.span radices.now (length buf.old) (length work.old) (fresh radices.now) }
         ensures held { IfOk result IsHeld }
-        ensures after { buf.new ≡ (if is_ok result then dealt X.Arithmetic.meaning.zero radices.now buf.old else buf.old) }
-        ensures work { work.new ≡ (if is_ok result then replicate (length work.old) X.Arithmetic.meaning.zero else work.old) }
+        ensures after { buf.new ≡ where_granted result (dealt X.Arithmetic.meaning.zero radices.now buf.old) buf.old }
+        ensures work { work.new ≡ cleared X.Arithmetic.meaning result work.old }
     {
         let plan = spectrum::deal(radices, buf, work)?;
         Ok(Run::begin(plan))
@@ -95,8 +96,8 @@ impl Run {
     pub fn stage<X: Arithmetic>(self, buf: &mut [X], work: &mut [X]) -> Result<Run, (Run, Fault)>
         ensures answer { as_seen result ≡ stepped X.Arithmetic.meaning.span self (length buf.old) (length work.old) }
         ensures held { IsHeld self → IfOk result IsHeld }
-        ensures after { buf.new ≡ (if is_ok result then staged X.Arithmetic.meaning (next_radix self) (part_size self) buf.old else buf.old) }
-        ensures work { work.new ≡ (if is_ok result then replicate (length work.old) X.Arithmetic.meaning.zero else work.old) }
+        ensures after { buf.new ≡ where_granted result (staged X.Arithmetic.meaning (next_radix self) (part_size self) buf.old) buf.old }
+        ensures work { work.new ≡ cleared X.Arithmetic.meaning result work.old }
     {
         if let Err(fault) = self.ready::<X>(buf.len(), work.len()) {
             return Err((self, fault));

@@ -2,7 +2,7 @@ use Rattle.std.proofs.Common.{map, Ok, sym, refl, ap, ◌∙◌}
 use Rattle.std.specs.Result.{result_map_both}
 use Rattle.matching.specs.Lags.{matches}
 use Rattle.matching.specs.Matched.{matched}
-use Rattle.crossing.specs.Answers.{where_granted}
+use Rattle.spectrum.specs.Granted.{where_granted}
 use Rattle.handover.specs.Lending.{kept}
 use Rattle.handover.specs.Matching.{sum, lags}
 use Rattle.crossing.proofs.Fronts.{told}

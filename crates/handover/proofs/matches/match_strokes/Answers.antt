@@ -5,7 +5,7 @@ use Rattle.handover.specs.Lending.{pairs, lent_stroke}
 use Rattle.std.specs.Result.{result_map_both}
 use Rattle.matching.specs.Lags.{matches}
 use Rattle.matching.specs.Matched.{matched}
-use Rattle.crossing.specs.Answers.{where_granted}
+use Rattle.spectrum.specs.Granted.{where_granted}
 use Rattle.handover.specs.Matching.{sum, lags, too_long}
 use Rattle.handover.proofs.Matching.{long_refused, short_matched}
 use Rattle.handover.proofs.matches.match_strokes.Goals as goal
