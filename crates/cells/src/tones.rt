@@ -51,6 +51,7 @@ pub(crate) fn lay_samples<X: Arithmetic>(under: &mut [X], laid: &[X])
     requires { length under.old ≡ length laid.now }
     ensures after { under.new ≡ laid_on X.Arithmetic.meaning under.old laid.now }
 {
+    // By number, as spectrum's `multiply`: after `iter_mut().zip(..)`, which was tried there, a proof knows how many elements there are, and not which.
     for (t, x) in laid.iter().enumerate() {
         under[t] = under[t].sum(*x);
     }

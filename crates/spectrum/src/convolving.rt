@@ -25,6 +25,7 @@ fn multiply<X: Arithmetic>(tones: &mut [X], others: &[X])
     requires { length others.now ≡ length tones.old }
     ensures after { tones.new ≡ spectra_product X.Arithmetic.meaning tones.old others.now }
 {
+    // By number: tried, and after `for (tone, other) in tones.iter_mut().zip(others)` a proof knows how many tones there are, and not which.
     for (k, other) in others.iter().enumerate() {
         tones[k] = tones[k].product(*other);
     }
