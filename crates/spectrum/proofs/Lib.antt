@@ -3,3 +3,4 @@ pub mod Columns
 pub mod Schedule
 pub mod Granting
 pub mod Toned
+pub mod Parts
