@@ -3,6 +3,7 @@ ghost use Rattle.std.specs.Prelude.{◌≡◌, ℕ, ℤ, ◌<◌};
 ghost use Rattle.matching.specs.Lags.{best};
 
 // The least place below n at which `value` is largest.
+// A loop: `max_by_key` answers the last of equal values, so that the first would come only of a range walked backwards.
 pub(crate) fn first_best<F: Fn(usize) -> i64>(n: usize, value: F) -> usize
     requires some { 0 < n }
     requires callable { (k : ℕ) → k < n → F.pre value k }

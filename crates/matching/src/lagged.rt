@@ -1,5 +1,5 @@
 // The lagged sum, in any arithmetic.
-ghost use Rattle.std.specs.Prelude.{◌≡◌, ◌<◌, length};
+ghost use Rattle.std.specs.Prelude.{◌≡◌};
 ghost use Rattle.std.specs.List.{zip};
 ghost use Rattle.matching.specs.Readings.{Paired, added, lagged};
 
@@ -15,7 +15,7 @@ fn add_products<X: Arithmetic>(sum: X, xs: &[X], ys: &[X]) -> X
 }
 
 // The sum over t of a_t times b at (t + lag) mod N: first what is met up to the end of b, and then from its front.
-// That the two are paired each caller shows: a struct of both would ask the same of each of its makers, and say no more.
+// No struct holds two lists that are `Paired`: that the lag is below their length would still be owed at each lag.
 pub(crate) fn lagged_sum<X: Arithmetic>(a: &[X], b: &[X], lag: usize) -> X
     requires paired { Paired a.now b.now lag }
     ensures answer { result ≡ lagged X.Arithmetic.meaning a.now b.now lag }

@@ -61,6 +61,7 @@ fn elements<F: Fn((i16, i16)) -> Path>(
 }
 
 // The sum of every lag, read as whole numbers, into `out`.
+// No struct holds two lists that are `Paired`: samples would need one and their elements another, and each would owe it anew.
 fn every_sum(a: &[Path], b: &[Path], out: &mut [(i64, i64)])
     requires paired { Paired a.now b.now 0 }
     requires whole { length out.old ≡ length a.now }

@@ -25,6 +25,7 @@ fn elements(counts: &[u16]) -> ArrayVec<Pressure, MOST_SAMPLES>
 }
 
 // The least lag of the largest sum.
+// No struct holds two lists that are `Paired`: counts would need one and their elements another, and each would owe it anew.
 fn best_lag(a: &[Pressure], b: &[Pressure]) -> usize
     requires paired { Paired a.now b.now 0 }
     ensures answer { result ≡ best_count (read_pressures a.now b.now) (length a.now) }
