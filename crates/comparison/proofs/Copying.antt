@@ -1,31 +1,20 @@
 -- A list that is copied element by element, as far as there are any.
-use Rattle.std.proofs.Common.{◌≡◌, ℕ, ◌+◌, ◌≤◌, true, List, [], ◌∷◌, ◌++◌, length, take, is_some, IfSome, Some, None, Option, unwrap_or, sym, refl, ap, ◌∙◌, length-append, arith}
+use Rattle.std.proofs.Common.{◌≡◌, ℕ, ◌+◌, ◌≤◌, true, List, [], ◌∷◌, ◌++◌, length, take, is_some, IfSome, Some, None, Option, unwrap_or, sym, ap, ◌∙◌, arith}
 use Rattle.std.specs.List.{slice_get, AllByRecursion}
 use Rattle.std.proofs.lemmas.List.{take_all, take_more}
 use Rattle.std.proofs.lemmas.Option.{slice_get_within, get_or_from_slice_get, gets}
 use Rattle.stroke.specs.Contents.{Contents, Sound, limit, pressures}
 
-module _ {X : Type 0} (xs : List X) where
-  -- the first are copied
-  pub record Copied (out : List X) : Type 0 where
-    pub few : length out ≤ length xs
-    pub is : out ≡ take (length out) xs
+module _ {X : Type 0} (xs : List X) (i : ℕ) (out : List X) (so_far : out ≡ take i xs) where
+  pub copied_more : (new : List X) (x : X) → slice_get xs i ≡ Some x → new ≡ out ++ x ∷ [] → new ≡ take (i + 1) xs
+  copied_more new x there added =
+      added ∙ ap (λ ys. ys ++ x ∷ []) so_far ∙ ap (λ y. take i xs ++ y ∷ []) (sym (get_or_from_slice_get xs i x x there))
+      ∙ sym (take_more xs i x (slice_get_within xs i x there))
 
-  pub copied_none : Copied []
-  copied_none = record { few = omega arith; is = refl }
-
-  pub copied_more : (out new : List X) (x : X) → Copied out → slice_get xs (length out) ≡ Some x → new ≡ out ++ x ∷ [] → Copied new
-  copied_more out new x so_far there added =
-      let here = slice_get_within xs (length out) x there in
-      let long : length new ≡ length out + 1 = ap length added ∙ length-append out (x ∷ []) in
-      record {
-        few = omega arith;
-        is = added ∙ ap (λ ys. ys ++ x ∷ []) so_far.is ∙ ap (λ y. take (length out) xs ++ y ∷ []) (sym (get_or_from_slice_get xs (length out) x x there))
-            ∙ sym (take_more xs (length out) x here) ∙ ap (λ n. take n xs) (sym long);
-      }
-
-  pub copied_all : (out : List X) → Copied out → slice_get xs (length out) ≡ None → out ≡ xs
-  copied_all out so_far none = let past : length xs ≤ length out = grind (arith, gets) in so_far.is ∙ take_all (length out) xs past
+  pub none_more : slice_get xs i ≡ None → out ≡ take (i + 1) xs
+  none_more none =
+      let past : length xs ≤ i = grind (arith, gets) in
+      so_far ∙ take_all i xs past ∙ sym (take_all (i + 1) xs (omega arith))
 
 few_of : (o : Option (List ℕ)) (len : ℕ) → IfSome o (λ us. (length us ≡ len) × AllByRecursion (λ u. u ≤ limit) us) → length (unwrap_or o []) ≤ len
 few_of (Some us) len long = omega (arith, long.0)

@@ -21,7 +21,7 @@ fn compare_strokes(a: &Samples, b: &Samples) -> Result<Comparison, Fault>
     ensures answer { result ≡ compared_strokes (copied a.now) (copied b.now) }
     ensures best { IfOk result (Best (copied a.now) (copied b.now)) }
 {
-    // Room for the sums of every lag lies on the stack: no heap is taken to compare.
+    // A fixed list on the stack in place of a Vec: the comparison takes no heap, and a stroke has no more lags than this.
     let mut sums = [(0, 0); MOST_SAMPLES];
     let found = match_strokes(&a.lent(), &b.lent(), &mut sums[..a.path.len()])?;
     Ok(Comparison {

@@ -20,8 +20,10 @@ fn path_of(stroke: &Stroke<'_>) -> ArrayVec<(i16, i16), MOST_SAMPLES>
     ensures answer { result.items ≡ (contents stroke.now).path }
 {
     let mut path = ArrayVec::new();
-    while let Some(sample) = stroke.path(path.len()) {
-        path.push(sample);
+    for i in 0..stroke.len() {
+        if let Some(sample) = stroke.path(i) {
+            path.push(sample);
+        }
     }
     path
 }
@@ -35,8 +37,10 @@ fn pressure_of(stroke: &Stroke<'_>) -> Option<ArrayVec<u16, MOST_SAMPLES>>
         return None;
     }
     let mut pressures = ArrayVec::new();
-    while let Some(pressure) = stroke.pressure(pressures.len()) {
-        pressures.push(pressure);
+    for i in 0..stroke.len() {
+        if let Some(pressure) = stroke.pressure(i) {
+            pressures.push(pressure);
+        }
     }
     Some(pressures)
 }
