@@ -13,8 +13,6 @@ use stroke::MOST_SAMPLES;
 use writing::{Lent, LentFault};
 
 impl From<Counts> for (i16, i16) {
-    ghost use Rattle.std.specs.Prelude.{◌≡◌};
-
     ghost from_gives = { λ c pair. pair ≡ (c.x, c.y) };
 
     fn from(counts: Counts) -> (i16, i16) {
@@ -26,6 +24,7 @@ impl From<Counts> for (i16, i16) {
 #[derive(Drop)]
 pub(crate) struct Held<'a> {
     path: ArrayVec<(i16, i16), MOST_SAMPLES>,
+    // Empty where there are none: C has no Option.
     pressure: &'a [u16],
 }
 
@@ -34,6 +33,7 @@ impl<'a> Held<'a> {
         requires few { length path.now ≤ most_samples }
         ensures answer { kept result ≡ lent_stroke path.now pressure.now }
     {
+        // A loop of its own: at a type parameter a push owes that the ArrayVec fits in memory, which is not proved.
         let mut tuples = ArrayVec::new();
         for sample in path {
             tuples.push((*sample).into());

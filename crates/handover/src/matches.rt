@@ -36,9 +36,6 @@ pub struct Lags {
 }
 
 impl From<(i64, i64)> for Sum {
-    ghost use Rattle.std.specs.Prelude.{◌≡◌};
-    ghost use Rattle.handover.specs.Matching.{sum as sum_of};
-
     ghost from_gives = { λ pair sum. sum ≡ sum_of pair };
 
     fn from((x, y): (i64, i64)) -> Sum {
@@ -47,9 +44,6 @@ impl From<(i64, i64)> for Sum {
 }
 
 impl From<Match> for Lags {
-    ghost use Rattle.std.specs.Prelude.{◌≡◌};
-    ghost use Rattle.handover.specs.Matching.{lags as lags_of};
-
     ghost from_gives = { λ found best. best ≡ lags_of found };
 
     fn from(found: Match) -> Lags {
@@ -61,7 +55,7 @@ impl From<Match> for Lags {
     }
 }
 
-// Why strokes are refused of which a list is longer than a stroke may be: by the length of the first, or for the list.
+// Refuses strokes of which a list is longer than a stroke may be: by the length of the first, or for the list.
 fn over_long(n: usize, pressed: bool) -> Result<(), Fault>
     ensures answer { result ≡ too_long n pressed }
 {
@@ -72,6 +66,7 @@ fn over_long(n: usize, pressed: bool) -> Result<(), Fault>
     Err(Fault::Length)
 }
 
+// `out` is indexed: tried `out.iter_mut().zip(sums)`, of whose writes a proof knows nothing, and `copy` with a nested `map`, left open.
 fn copy_sums(sums: &[(i64, i64)], out: &mut [Sum])
     requires { length out.old ≡ length sums.now }
     ensures after { out.new ≡ map sum_of sums.now }
@@ -81,7 +76,7 @@ fn copy_sums(sums: &[(i64, i64)], out: &mut [Sum])
     }
 }
 
-// The match by way of sums in tuples, for which there is room on the stack.
+// The match by way of sums in tuples. Their fixed list lies on the stack, since no call from C takes heap.
 fn match_into(a: &Held<'_>, b: &Held<'_>, out: &mut [Sum]) -> Result<Lags, Fault>
     requires few { length out.old ≤ most_samples }
     ensures answer { result ≡ result_map_both lags_of (λ f. f) (matched (kept a.now) (kept b.now) (length out.old)) }

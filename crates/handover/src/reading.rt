@@ -4,7 +4,7 @@ ghost use Rattle.std.specs.Result.{result_map_both};
 ghost use Rattle.stroke.specs.Contents.{pressures};
 ghost use Rattle.stroke.specs.Reading.{contents};
 ghost use Rattle.crossing.specs.Answers.{in_front};
-ghost use Rattle.handover.specs.Reading.{path_counts, heading, read_in, Reads};
+ghost use Rattle.handover.specs.Reading.{counts, path_counts, heading, read_in, Reads};
 
 use crate::copying::copy;
 use crossing::{Status, answered};
@@ -28,9 +28,6 @@ pub struct Heading {
 }
 
 impl From<(i16, i16)> for Counts {
-    ghost use Rattle.std.specs.Prelude.{◌≡◌};
-    ghost use Rattle.handover.specs.Reading.{counts};
-
     ghost from_gives = { λ pair c. c ≡ counts pair };
 
     fn from((x, y): (i16, i16)) -> Counts {
