@@ -5,7 +5,7 @@ ghost use Rattle.writing.specs.Lending.{lent_number, lent_place, held, sized, wi
 
 use stroke::{MOST_SAMPLES, Sampled};
 
-// Nothing is taken for granted of the two lists.
+// Two lists, since callers, C among them, lend two, and a stroke may have no pressures. Nothing is taken for granted of them.
 #[derive(Clone, Copy)]
 pub struct Lent<'a> {
     pub path: &'a [(i16, i16)],
