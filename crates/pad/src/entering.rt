@@ -16,6 +16,7 @@ fn entering(stroke: &Stroke<'_>, i: usize) -> Fixed
         .map_or(Fixed::zero(), |(x, y)| Fixed::sample(x, y))
 }
 
+// Not by handover's `copy`: pad stands below it, and a public one would ask of its callers that the closure may be called.
 pub(crate) fn enter(stroke: &Stroke<'_>, out: &mut [Fixed])
     requires { length out.old ≡ length (contents stroke.now).path }
     ensures after { out.new ≡ entered (contents stroke.now).path }

@@ -5,6 +5,7 @@ ghost use Rattle.pad.specs.Reported.{spectrum_in, Reports};
 
 use crate::files::file_tones;
 use crate::text::spectrum_text;
+use arithmetic::Arithmetic;
 use fixed::Fixed;
 use refusal::Fault;
 use spectrum::SCRATCH;
@@ -13,8 +14,6 @@ use stroke::MOST_SAMPLES;
 
 // What the transform of the longest stroke works in.
 const MOST_WORK: usize = MOST_SAMPLES + SCRATCH;
-
-const NOTHING: Fixed = Fixed { x: 0, y: 0 };
 
 // Why there is no report: the file is refused, or there is no memory for the text.
 #[derive(Clone, Copy, Drop)]
@@ -44,8 +43,9 @@ impl From<AllocError> for Failure {
 pub fn report_on(heap: Global, bytes: &[u8]) -> Result<String, Failure>
     ensures answer { Reports (spectrum_in bytes.now) result }
 {
-    let mut tones = [NOTHING; MOST_SAMPLES];
-    let mut work = [NOTHING; MOST_WORK];
+    // Rooms of a fixed size: only the text is to want memory.
+    let mut tones = [Fixed::zero(); MOST_SAMPLES];
+    let mut work = [Fixed::zero(); MOST_WORK];
     let summary = file_tones(bytes, &mut tones, &mut work)?;
     let text = spectrum_text(heap, summary.turns, &tones[..summary.count])?;
     Ok(text)
