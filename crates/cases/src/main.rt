@@ -6,7 +6,7 @@
 #![tactic(auto)]
 
 use arithmetic::Arithmetic;
-use casework::{Element, print_refusal, radices};
+use casework::{Element, radices};
 use fixed::Fixed;
 use pad::{Failure, report_on, spectrum_text};
 use refusal::Fault;
@@ -26,7 +26,7 @@ fn samples(heap: Global, stroke: &Stroke<'_>) -> Result<Vec<Fixed>, AllocError> 
 fn standard(rt: &HostRuntime, bytes: &[u8]) -> anyhow::Result<()> {
     match report_on(rt.alloc(), bytes) {
         Ok(text) => print!(rt; "{text}")?,
-        Err(Failure::Refused(fault)) => print_refusal(rt, fault)?,
+        Err(Failure::Refused(fault)) => println!(rt; "refused {fault}")?,
         Err(Failure::Text(e)) => return Err(e.into()),
     }
     Ok(())
@@ -35,7 +35,10 @@ fn standard(rt: &HostRuntime, bytes: &[u8]) -> anyhow::Result<()> {
 fn chosen(rt: &HostRuntime, bytes: &[u8], plan: &str, lent: usize) -> anyhow::Result<()> {
     let stroke = match stroke::read(bytes) {
         Ok(stroke) => stroke,
-        Err(fault) => return print_refusal(rt, Fault::File(fault)),
+        Err(fault) => {
+            println!(rt; "refused {}", Fault::File(fault))?;
+            return Ok(());
+        }
     };
     let radices = radices(rt.alloc(), plan)?;
     let before = samples(rt.alloc(), &stroke)?;
@@ -50,7 +53,7 @@ fn chosen(rt: &HostRuntime, bytes: &[u8], plan: &str, lent: usize) -> anyhow::Re
             }
         }
         Err(fault) => {
-            print_refusal(rt, fault)?;
+            println!(rt; "refused {fault}")?;
             if buf != before || !work.iter().all(|x| *x == Fixed::mark()) {
                 println!(rt; "a lent buffer has changed")?;
             }

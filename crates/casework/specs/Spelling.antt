@@ -1,6 +1,7 @@
 -- How the elements of an arithmetic are written in a case, and their readings printed.
-use Rattle.std.specs.Prelude.{◌≢◌, ℕ, ◌<◌, List, ◌∷◌, ◌++◌, length, slice_index, ℤ, decimal}
+use Rattle.std.specs.Prelude.{◌≢◌, ◌==◌, not, ℕ, ◌<◌, List, ◌∷◌, ◌++◌, length, filter, slice_index, ℤ, decimal}
 use Rattle.std.specs.Fmt.{signed_decimal}
+use Rattle.std.specs.List.{slice_split}
 use Rattle.fixed.specs.declared.Fixed.{Fixed}
 use Rattle.path.specs.declared.Path.{Path}
 use Rattle.pressure.specs.declared.Pressure.{Pressure}
@@ -13,12 +14,19 @@ pub record Spelling (X R : Type 0) : Type 0 where
 abbrev pub comma : ℕ
 comma = 44
 
+abbrev pub space : ℕ
+space = 32
+
 abbrev pub Lacks : ℕ → List ℕ → Type 0
 Lacks c word = (i : ℕ) → i < length word → slice_index word i ≢ c
 
 -- two words, which a comma joins
 abbrev pub joined : List ℕ → List ℕ → List ℕ
 joined a b = a ++ (comma ∷ b)
+
+-- the words of a list; between two spaces that meet there is none
+abbrev pub spaced : List ℕ → List (List ℕ)
+spaced text = filter (λ word. not (length word == 0)) (slice_split (λ c. c == space) text)
 
 abbrev pub pressure_spelling : Spelling Pressure ℕ
 pressure_spelling = record {

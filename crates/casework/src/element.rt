@@ -1,9 +1,8 @@
 // How the elements of each arithmetic are written in a case, and their readings printed.
-ghost use Rattle.std.specs.Prelude.{◌≡◌, ℕ, ◌^◌, ◌<◌, List, ◌++◌, IsOkAnd, Ok, OnOk, string_bytes};
+ghost use Rattle.std.specs.Prelude.{◌≡◌, ◌≢◌, ℕ, ◌^◌, ◌<◌, List, ◌++◌, Ok, OnOk, string_bytes};
 ghost use Rattle.fixed.specs.Range.{InRange};
 ghost use Rattle.casework.specs.Spelling.{Spelling, comma, Lacks, joined, pressure_spelling, path_spelling, fixed_spelling};
 
-use anyhow::Context;
 use arithmetic::Arithmetic;
 use fixed::Fixed;
 use path::Path;
@@ -16,8 +15,9 @@ pub trait Element: Arithmetic + Clone + PartialEq {
 
     ghost spelling: { Spelling Self Self.Reading };
 
-    // What fills the work before a call, so that a change shows.
-    fn mark() -> Self;
+    // What fills the work before a call, so that a change shows: a granted call leaves zeros there.
+    fn mark() -> Self
+        ensures shows { result ≢ Self.Arithmetic.meaning.zero };
 
     // Its words as they stand, reduced or not.
     fn parse(text: &str) -> anyhow::Result<Self>
@@ -27,11 +27,13 @@ pub trait Element: Arithmetic + Clone + PartialEq {
         ensures after { OnOk result (string_bytes text.new ≡ string_bytes text.old ++ spelling.printed reading) };
 }
 
-// The two words that a comma joins.
-fn pair(text: &str) -> anyhow::Result<(&str, &str)>
-    ensures answer { (u v : List ℕ) → Lacks comma u → text.now ≡ joined u v → IsOkAnd result (λ p. (p.0.now ≡ u) × (p.1.now ≡ v)) }
+// The two words that a comma joins. One that is missing is empty, and what stands after a second comma is not read.
+fn pair(text: &str) -> (&str, &str)
+    ensures answer { (u v : List ℕ) → Lacks comma u → Lacks comma v → text.now ≡ joined u v → (result.0.now ≡ u) × (result.1.now ≡ v) }
 {
-    text.split_once(',').context("an element has two words")
+    let (first, rest) = text.split_once(',').unwrap_or((text, ""));
+    let (second, _) = rest.split_once(',').unwrap_or((rest, ""));
+    (first, second)
 }
 
 impl Element for Pressure {
@@ -64,7 +66,7 @@ impl Element for Path {
     }
 
     fn parse(text: &str) -> anyhow::Result<Path> {
-        let (u, v) = pair(text)?;
+        let (u, v) = pair(text);
         Ok(Path {
             u: u.parse()?,
             v: v.parse()?,
@@ -87,7 +89,7 @@ impl Element for Fixed {
     }
 
     fn parse(text: &str) -> anyhow::Result<Fixed> {
-        let (x, y) = pair(text)?;
+        let (x, y) = pair(text);
         Ok(Fixed {
             x: x.parse()?,
             y: y.parse()?,

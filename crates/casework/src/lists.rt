@@ -1,7 +1,7 @@
 // The lists of a case.
 ghost use Rattle.std.specs.Prelude.{◌≡◌, ◌≢◌, ◌==◌, [], length, IfOk, codes};
 ghost use Rattle.std.specs.List.{slice_split};
-ghost use Rattle.casework.specs.Spelling.{comma};
+ghost use Rattle.casework.specs.Spelling.{comma, spaced};
 
 use crate::element::Element;
 use std::alloc::Global;
@@ -21,10 +21,12 @@ pub fn radices(heap: Global, text: &str) -> anyhow::Result<Vec<u8>>
     text.split(',').map(radix).try_collect(heap)
 }
 
-// The elements of a list, with spaces between them. `parse` says what each word comes to, and the tests how many come: the
-// library has no name for a text's words that a clause could count.
-pub fn elements<X: Element>(heap: Global, text: &str) -> anyhow::Result<Vec<X>> {
-    text.split_whitespace()
+// The elements of a list, with spaces between them.
+pub fn elements<X: Element>(heap: Global, text: &str) -> anyhow::Result<Vec<X>>
+    ensures count { IfOk result (λ v. length v.items ≡ length (spaced text.now)) }
+{
+    text.split(' ')
+        .filter(|word| !word.is_empty())
         .map(|word| X::parse(word))
         .try_collect(heap)
 }

@@ -1,4 +1,4 @@
-// What comes in, up to a most.
+// What a program is given to read, and how much of it is read at most.
 ghost use Rattle.std.specs.Prelude.{◌≡◌, take, IfSome, IfOk, string_bytes};
 ghost use Rattle.casework.specs.Most.{most_of_file, most_of_script};
 
@@ -7,7 +7,7 @@ use std::io;
 use std::io::Read;
 
 // One byte more than the largest file: enough to refuse a larger one.
-const MOST_BYTES: u64 = 65_537;
+const ENOUGH_BYTES: u64 = 65_537;
 
 // More than any script of cases has.
 const MOST_SCRIPT: u64 = 1_000_000;
@@ -17,7 +17,7 @@ pub fn file_bytes<R: Read + Drop>(heap: Global, file: R) -> io::Result<Vec<u8>>
     ensures bytes { IfOk result (λ v. IfSome (R.remaining file) (λ bs. v.items ≡ take most_of_file bs)) }
 {
     let mut bytes = Vec::new(heap);
-    file.take(MOST_BYTES).read_to_end(&mut bytes)?;
+    file.take(ENOUGH_BYTES).read_to_end(&mut bytes)?;
     Ok(bytes)
 }
 

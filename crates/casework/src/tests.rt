@@ -24,9 +24,11 @@ fn lists_are_read(rt: HostRuntime) -> Result<(), Fail> {
 fn readings_are_printed(rt: HostRuntime) -> Result<(), Fail> {
     let mut text = String::new(rt.alloc());
     Pressure::write(7, &mut text)?;
+    text.push(' ')?;
     Path::write((1, 2), &mut text)?;
+    text.push(' ')?;
     Fixed::write((3, -4), &mut text)?;
-    assert_eq!(rt; text.as_str(), "71,23,-4");
+    assert_eq!(rt; text.as_str(), "7 1,2 3,-4");
     Ok(())
 }
 

@@ -6,8 +6,8 @@
 // factors, and what lies where the result goes. The words of one element are joined by a comma.
 #![tactic(auto)]
 
-use anyhow::{Context, anyhow};
-use casework::{Element, elements, print_refusal, radices, script};
+use anyhow::anyhow;
+use casework::{Element, elements, radices, script};
 use fixed::Fixed;
 use path::Path;
 use pressure::Pressure;
@@ -45,7 +45,7 @@ fn print_end<X: Element>(
             }
         }
         Err(fault) => {
-            print_refusal(rt, fault)?;
+            println!(rt; "refused {fault}")?;
             if buf != before || !work.iter().all(|x| *x == X::mark()) {
                 println!(rt; "a lent buffer has changed")?;
             }
@@ -79,12 +79,11 @@ fn run_convolve<X: Element>(
     work: &mut [X],
 ) -> anyhow::Result<()> {
     let mut lists = lists.split('|');
-    let (Some(first), Some(second), Some(out)) = (lists.next(), lists.next(), lists.next()) else {
-        return Err(anyhow!("a convolution has three lists"));
-    };
+    let first = lists.next().unwrap_or("");
+    let second = lists.next().unwrap_or("");
     let a = elements::<X>(rt.alloc(), first)?;
     let b = elements::<X>(rt.alloc(), second)?;
-    let before = elements::<X>(rt.alloc(), out)?;
+    let before = elements::<X>(rt.alloc(), lists.next().unwrap_or(""))?;
     let mut out = before.clone()?;
     let answer = convolve(radices, &a, &b, &mut out, work);
     if a != elements::<X>(rt.alloc(), first)? || b != elements::<X>(rt.alloc(), second)? {
@@ -93,11 +92,13 @@ fn run_convolve<X: Element>(
     print_end(rt, answer, &before, &out, work)
 }
 
-// The words are the call, the radices and how much work is lent.
-fn run<X: Element>(rt: &HostRuntime, words: [&str; 3], lists: &str) -> anyhow::Result<()> {
-    let [call, plan, lent] = words;
-    let radices = radices(rt.alloc(), plan)?;
-    let mut work = vec![in rt.alloc(); X::mark(); lent.parse::<usize>()?]?;
+// Runs a call by what stands after the arithmetic: the call's name, the radices and how much work is lent.
+fn run<X: Element>(rt: &HostRuntime, words: &str, lists: &str) -> anyhow::Result<()> {
+    let mut words = words.split(' ');
+    let call = words.next().unwrap_or("");
+    let radices = radices(rt.alloc(), words.next().unwrap_or(""))?;
+    let lent = words.next().unwrap_or("").parse::<usize>()?;
+    let mut work = vec![in rt.alloc(); X::mark(); lent]?;
     // Each word is looked at once, here: an enum of the calls would only name them a second time.
     match call {
         "transform" => {
@@ -114,22 +115,16 @@ fn run<X: Element>(rt: &HostRuntime, words: [&str; 3], lists: &str) -> anyhow::R
 }
 
 fn case(rt: &HostRuntime, line: &str) -> anyhow::Result<()> {
-    let (head, lists) = line.split_once(':').context("a case has a ':'")?;
+    let mut parts = line.split(':');
+    let head = parts.next().unwrap_or("");
+    let lists = parts.next().unwrap_or("");
     println!(rt; "{head}")?;
-    let mut words = head.split(' ');
-    let (Some(arithmetic), Some(call), Some(plan), Some(lent)) = (
-        words.next(),
-        words.next(),
-        words.next(),
-        words.next(),
-    ) else {
-        return Err(anyhow!("a case begins with four words"));
-    };
-    // As with the call: a word that is looked at once.
+    let (arithmetic, words) = head.split_once(' ').unwrap_or((head, ""));
+    // This word too is looked at once, here.
     match arithmetic {
-        "pressure" => run::<Pressure>(rt, [call, plan, lent], lists),
-        "path" => run::<Path>(rt, [call, plan, lent], lists),
-        "fixed" => run::<Fixed>(rt, [call, plan, lent], lists),
+        "pressure" => run::<Pressure>(rt, words, lists),
+        "path" => run::<Path>(rt, words, lists),
+        "fixed" => run::<Fixed>(rt, words, lists),
         _ => Err(anyhow!("no such arithmetic")),
     }
 }

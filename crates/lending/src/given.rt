@@ -1,5 +1,4 @@
 // How a stroke is written in a case.
-use anyhow::Context;
 use std::alloc::Global;
 use writing::Lent;
 
@@ -18,8 +17,10 @@ fn times(word: &str) -> anyhow::Result<(&str, usize)> {
 }
 
 fn pair(value: &str) -> anyhow::Result<(i16, i16)> {
-    let (x, y) = value.split_once(',').context("a sample is a pair")?;
-    Ok((x.parse()?, y.parse()?))
+    let mut words = value.split(',');
+    let x = words.next().unwrap_or("").parse()?;
+    let y = words.next().unwrap_or("").parse()?;
+    Ok((x, y))
 }
 
 fn count(value: &str) -> anyhow::Result<u16> {
@@ -27,12 +28,12 @@ fn count(value: &str) -> anyhow::Result<u16> {
 }
 
 // The values of the words, each as many times as it stands there.
-fn values<T: Copy, Read: Fn(&str) -> anyhow::Result<T>>(
+fn values<T: Copy, F: Fn(&str) -> anyhow::Result<T>>(
     heap: Global,
     text: &str,
-    read: Read,
+    read: F,
 ) -> anyhow::Result<Vec<T>>
-    requires { Read.IsAlwaysCallable read }
+    requires { F.IsAlwaysCallable read }
 {
     let mut list = Vec::new(heap);
     for word in text.split_whitespace() {
@@ -45,8 +46,9 @@ fn values<T: Copy, Read: Fn(&str) -> anyhow::Result<T>>(
 
 impl Given {
     pub(crate) fn parse(heap: Global, text: &str) -> anyhow::Result<Given> {
-        let (path, pressure) = text.split_once('/').context("a stroke has a '/'")?;
-        let path = values(heap, path, pair)?;
+        let mut parts = text.split('/');
+        let path = values(heap, parts.next().unwrap_or(""), pair)?;
+        let pressure = parts.next().unwrap_or("");
         let pressure = if pressure.trim() == "-" {
             None
         } else {

@@ -10,14 +10,14 @@ mod given;
 mod matches;
 mod writes;
 
-use anyhow::{Context, anyhow};
+use anyhow::anyhow;
 use casework::script;
 use matches::run_match;
 use refusal::Fault;
 use writes::run_write;
 
 pub(crate) fn print_refusal(rt: &HostRuntime, fault: Fault, changed: bool) -> anyhow::Result<()> {
-    casework::print_refusal(rt, fault)?;
+    println!(rt; "refused {fault}")?;
     if changed {
         println!(rt; "the output has changed")?;
     }
@@ -25,17 +25,17 @@ pub(crate) fn print_refusal(rt: &HostRuntime, fault: Fault, changed: bool) -> an
 }
 
 fn case(rt: &HostRuntime, line: &str) -> anyhow::Result<()> {
-    let (head, strokes) = line.split_once(':').context("a case has a ':'")?;
+    let mut parts = line.split(':');
+    let head = parts.next().unwrap_or("");
+    let strokes = parts.next().unwrap_or("");
     println!(rt; "{head}")?;
     let mut words = head.split(' ');
-    let (Some(call), Some(room)) = (words.next(), words.next()) else {
-        return Err(anyhow!("a case begins with a call and a room"));
-    };
-    let room = room.parse()?;
-    // Looked at once, here: an enum of the calls would only name them a second time.
-    match (call, words.next()) {
-        ("match", Some(lags)) => run_match(rt, room, lags, strokes),
-        ("write", None) => run_write(rt, room, strokes),
+    let call = words.next().unwrap_or("");
+    let room = words.next().unwrap_or("").parse::<usize>()?;
+    // Each word is looked at once, here: an enum of the calls would only name them a second time.
+    match call {
+        "match" => run_match(rt, room, words.next().unwrap_or(""), strokes),
+        "write" => run_write(rt, room, strokes),
         _ => Err(anyhow!("no such call")),
     }
 }

@@ -1,7 +1,6 @@
 // The cases of matching.
 use crate::given::Given;
 use crate::print_refusal;
-use anyhow::Context;
 use matching::{Match, match_strokes};
 
 // What fills the output before a call, so that a change shows.
@@ -44,11 +43,9 @@ pub(crate) fn run_match(
     lags: &str,
     strokes: &str,
 ) -> anyhow::Result<()> {
-    let (a, b) = strokes
-        .split_once('|')
-        .context("a match is of two strokes")?;
-    let a = Given::parse(rt.alloc(), a)?;
-    let b = Given::parse(rt.alloc(), b)?;
+    let mut strokes = strokes.split('|');
+    let a = Given::parse(rt.alloc(), strokes.next().unwrap_or(""))?;
+    let b = Given::parse(rt.alloc(), strokes.next().unwrap_or(""))?;
     let mut out = vec![in rt.alloc(); MARK; room]?;
     match match_strokes(&a.lent(), &b.lent(), &mut out) {
         Ok(found) => {

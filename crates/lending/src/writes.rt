@@ -2,7 +2,7 @@
 use crate::given::Given;
 use crate::print_refusal;
 use refusal::Fault;
-use stroke::{Stroke, read};
+use stroke::read;
 use writing::{Lent, write};
 
 // What fills the output before a call, so that a change shows.
@@ -11,14 +11,14 @@ const MARK: u8 = 0xa5;
 // How many bytes are printed on a line.
 const ROW: usize = 24;
 
-fn same_path(back: &Stroke<'_>, path: &[(i16, i16)]) -> bool {
-    let mut samples = path.iter().enumerate();
-    back.len() == path.len() && samples.all(|(i, sample)| back.path(i) == Some(*sample))
-}
-
-fn same_pressures(back: &Stroke<'_>, us: &[u16]) -> bool {
-    let mut samples = us.iter().enumerate();
-    back.has_pressure() && samples.all(|(i, u)| back.pressure(i) == Some(*u))
+// Whether `at` gives each of the values in its place.
+fn same<T: PartialEq + Copy, F: Fn(usize) -> Option<T>>(values: &[T], at: F) -> bool
+    requires { F.IsAlwaysCallable at }
+{
+    values
+        .iter()
+        .enumerate()
+        .all(|(i, value)| at(i) == Some(*value))
 }
 
 // Whether the bytes are read as the stroke.
@@ -27,10 +27,10 @@ fn read_back(stroke: &Lent<'_>, bytes: &[u8]) -> bool {
         return false;
     };
     let pressed = match stroke.pressure {
-        Some(us) => same_pressures(&back, us),
+        Some(us) => back.has_pressure() && same(us, |i| back.pressure(i)),
         None => !back.has_pressure(),
     };
-    pressed && same_path(&back, stroke.path)
+    pressed && back.len() == stroke.path.len() && same(stroke.path, |i| back.path(i))
 }
 
 fn print_bytes(rt: &HostRuntime, out: &[u8]) -> anyhow::Result<()> {
