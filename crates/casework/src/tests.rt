@@ -1,9 +1,8 @@
 // That calls succeed where there is memory, and how a list is taken apart.
-use crate::{Element, elements, file_bytes, print_refusal, radices, script};
+use crate::{Element, elements, file_bytes, radices, script};
 use fixed::Fixed;
 use path::Path;
 use pressure::Pressure;
-use refusal::Fault;
 use std::test::Fail;
 
 #[test]
@@ -37,11 +36,5 @@ fn input_is_read(rt: HostRuntime) -> Result<(), Fail> {
     let long = vec![in rt.alloc(); 7u8; 70_000]?;
     assert_eq!(rt; file_bytes(rt.alloc(), long.as_slice())?.len(), 65_537);
     assert_eq!(rt; script(rt.alloc(), "case\n".as_bytes())?.as_str(), "case\n");
-    Ok(())
-}
-
-#[test]
-fn a_refusal_is_printed(rt: HostRuntime) -> Result<(), Fail> {
-    print_refusal(&rt, Fault::Length)?;
     Ok(())
 }

@@ -1,9 +1,9 @@
 // Matches the strokes in two files, which its arguments name, and prints their best lags, or why they are refused.
 #![tactic(auto)]
 
-use casework::{file_bytes, print_refusal};
+use casework::file_bytes;
 use comparison::report_on;
-use pad::Failure;
+use pad::{Failure, refusal_text};
 use refusal::Fault;
 use std::process::ExitCode;
 use std::{env, fs, io};
@@ -31,7 +31,8 @@ fn file(rt: &HostRuntime, name: String) -> Result<Vec<u8>, Stop> {
     contents(rt, name.as_str()).map_err(|e| Stop::Unread(name, e))
 }
 
-// Prints the comparison; answers why there is none where a file is refused.
+// Prints the comparison; answers why there is none where a file is refused. A refusal is an answer, printed on standard
+// output, and no error: so it stands in a Result of its own.
 fn run(rt: &HostRuntime) -> Result<Result<(), Fault>, Stop> {
     // The first word is the program's name.
     let mut words = env::args(rt)?.skip(1);
@@ -51,7 +52,10 @@ fn run(rt: &HostRuntime) -> Result<Result<(), Fault>, Stop> {
 fn main(rt: HostRuntime) -> anyhow::Result<ExitCode> {
     match run(&rt) {
         Ok(Ok(())) => return Ok(ExitCode::SUCCESS),
-        Ok(Err(fault)) => print_refusal(&rt, fault)?,
+        Ok(Err(fault)) => {
+            let line = refusal_text(rt.alloc(), fault)?;
+            print!(rt; "{line}")?;
+        }
         Err(stop) => eprintln!(rt; "{stop}")?,
     }
     Ok(ExitCode::FAILURE)

@@ -9,7 +9,7 @@ mod worked;
 use agreement::agreement;
 use anyhow::anyhow;
 use arithmetic::Arithmetic;
-use casework::{Element, elements, print_refusal, script};
+use casework::{Element, elements, script};
 use path::Path;
 use plan::Plan;
 use pressure::Pressure;
@@ -20,7 +20,7 @@ use spectrum::SCRATCH;
 fn print_answer(rt: &HostRuntime, answer: Result<(), Fault>) -> anyhow::Result<()> {
     match answer {
         Ok(()) => println!(rt; "done")?,
-        Err(fault) => print_refusal(rt, fault)?,
+        Err(fault) => println!(rt; "refused {fault}")?,
     }
     Ok(())
 }
@@ -36,14 +36,14 @@ fn play_tone<X: Element>(
             X::write(tone, &mut text)?;
             println!(rt; "tone {text}")?;
         }
-        Err(fault) => print_refusal(rt, fault)?,
+        Err(fault) => println!(rt; "refused {fault}")?,
     }
     Ok(())
 }
 
 fn play<X: Element>(rt: &HostRuntime, sheet: &mut Sheet<'_, X>, line: &str) -> anyhow::Result<()> {
     let (call, rest) = line.split_once(' ').unwrap_or((line, ""));
-    // Each word is looked at once, here: an enum of the calls would only name them a second time.
+    // Not read into a `replay::Call`: its `Lay` borrows the list, which one match would have to read and keep for a second.
     match call {
         "edit" => {
             let (number, value) = rest.split_once(' ').unwrap_or((rest, ""));
@@ -81,7 +81,7 @@ fn perform<X: Element>(rt: &HostRuntime, samples: &str, calls: &str) -> anyhow::
                 play(rt, &mut sheet, line)?;
             }
         }
-        Err(fault) => print_refusal(rt, fault)?,
+        Err(fault) => println!(rt; "refused {fault}")?,
     }
     Ok(())
 }
@@ -91,7 +91,7 @@ fn play_script(rt: &HostRuntime, text: &str) -> anyhow::Result<()> {
     let (first, calls) = text.split_once('\n').unwrap_or((text, ""));
     let (kind, samples) = first.split_once(' ').unwrap_or((first, ""));
     println!(rt; "{kind}")?;
-    // As with a call: a word that is looked at once.
+    // The word is looked at once, here: an enum of the two would only name them a second time.
     match kind {
         "pressure" => perform::<Pressure>(rt, samples, calls),
         "path" => perform::<Path>(rt, samples, calls),

@@ -4,7 +4,7 @@
 
 use anyhow::anyhow;
 use arithmetic::Arithmetic;
-use casework::{Element, print_refusal};
+use casework::Element;
 use fixed::Fixed;
 use pressure::Pressure;
 use refusal::Fault;
@@ -31,10 +31,13 @@ fn samples(heap: Global, n: usize) -> Result<Vec<Fixed>, AllocError> {
 fn show(rt: &HostRuntime, heading: &str, number: usize, buf: &[Fixed]) -> anyhow::Result<()> {
     println!(rt; "{heading} {number}")?;
     for (k, value) in buf.iter().enumerate() {
-        let x = value.x;
-        let y = value.y;
-        println!(rt; "{k} {x} {y}")?;
+        println!(rt; "{k} {} {}", value.x, value.y)?;
     }
+    Ok(())
+}
+
+fn refused(rt: &HostRuntime, fault: Fault) -> anyhow::Result<()> {
+    println!(rt; "refused {fault}")?;
     Ok(())
 }
 
@@ -58,7 +61,7 @@ fn poll_all(
 ) -> anyhow::Result<()> {
     let mut run = match Run::deal(radices, buf, work) {
         Ok(run) => run,
-        Err(fault) => return print_refusal(rt, fault),
+        Err(fault) => return refused(rt, fault),
     };
     for _i in 0..run.left() {
         let shown = show(rt, "left", run.left(), buf);
@@ -67,7 +70,7 @@ fn poll_all(
             Ok(next) => next,
             Err((held, fault)) => {
                 held.give_up(buf);
-                return print_refusal(rt, fault);
+                return refused(rt, fault);
             }
         };
     }
@@ -75,7 +78,7 @@ fn poll_all(
         Ok(turns) => show(rt, "turns", turns, buf),
         Err((held, fault)) => {
             held.give_up(buf);
-            print_refusal(rt, fault)
+            refused(rt, fault)
         }
     }
 }
@@ -102,7 +105,7 @@ fn deal_only(rt: &HostRuntime, radices: &[u8], n: usize, room: usize) -> anyhow:
             println!(rt; "granted")?;
         }
         Err(fault) => {
-            print_refusal(rt, fault)?;
+            refused(rt, fault)?;
             if buf != before || !work.iter().all(|x| *x == Fixed::mark()) {
                 println!(rt; "a lent buffer has changed")?;
             }
@@ -121,7 +124,7 @@ fn try_stage<X: Arithmetic>(run: Run, buf: &mut [X], work: &mut [X]) -> (Run, Op
 
 fn say(rt: &HostRuntime, heard: Option<Fault>) -> anyhow::Result<()> {
     match heard {
-        Some(fault) => print_refusal(rt, fault),
+        Some(fault) => refused(rt, fault),
         None => {
             println!(rt; "granted")?;
             Ok(())
@@ -131,10 +134,7 @@ fn say(rt: &HostRuntime, heard: Option<Fault>) -> anyhow::Result<()> {
 
 // A run that is granted.
 fn begin<X: Arithmetic>(radices: &[u8], buf: &mut [X], work: &mut [X]) -> anyhow::Result<Run> {
-    match Run::deal(radices, buf, work) {
-        Ok(run) => Ok(run),
-        Err(_) => Err(anyhow!("a run was refused")),
-    }
+    Run::deal(radices, buf, work).map_err(|_| anyhow!("a run was refused"))
 }
 
 // Its turns, where no stage is left.

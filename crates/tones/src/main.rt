@@ -2,12 +2,13 @@
 #![tactic(auto)]
 
 use anyhow::bail;
-use casework::{file_bytes, print_refusal};
-use pad::{Failure, report_on};
+use casework::file_bytes;
+use pad::{Failure, refusal_text, report_on};
 use refusal::Fault;
 use std::process::ExitCode;
 
-// Prints the spectrum; answers why there is none where the file is refused.
+// Prints the spectrum; answers why there is none where the file is refused. A refusal is an answer, printed on standard output,
+// and no error: so it stands in a Result of its own.
 fn run(rt: &HostRuntime) -> anyhow::Result<Result<(), Fault>> {
     let bytes = file_bytes(rt.alloc(), rt.stdin())?;
     match report_on(rt.alloc(), &bytes) {
@@ -21,7 +22,10 @@ fn run(rt: &HostRuntime) -> anyhow::Result<Result<(), Fault>> {
 fn main(rt: HostRuntime) -> anyhow::Result<ExitCode> {
     match run(&rt) {
         Ok(Ok(())) => return Ok(ExitCode::SUCCESS),
-        Ok(Err(fault)) => print_refusal(&rt, fault)?,
+        Ok(Err(fault)) => {
+            let line = refusal_text(rt.alloc(), fault)?;
+            print!(rt; "{line}")?;
+        }
         Err(e) => eprintln!(rt; "tones: {e}")?,
     }
     Ok(ExitCode::FAILURE)
