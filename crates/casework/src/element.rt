@@ -79,6 +79,7 @@ impl Element for Path {
     }
 }
 
+// As a path's element but for the type of its words, whose reading and printing the library names at each type alone.
 impl Element for Fixed {
     ghost Held = { λ a. (InRange a.x) × (InRange a.y) };
 

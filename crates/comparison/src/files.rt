@@ -9,6 +9,7 @@ use refusal::Fault;
 use stroke::MOST_SAMPLES;
 
 // The lag at which two paths agree best and the pair R there; and the pressures' best lag.
+// Flat, as it is printed: a `Match` inside would part the lag from the sum that is its own.
 #[derive(Clone, Copy, Debug, PartialEq, Eq)]
 pub struct Comparison {
     pub lag: usize,

@@ -37,7 +37,7 @@ pub(crate) fn lent(n: usize, buf: usize, work: usize) -> Result<(), Fault>
     Ok(())
 }
 
-// Refuses a length that does not divide the span, or lent memory that does not suit it.
+// Refuses a length that does not divide the span, or lent memory that does not suit it: for a caller that has no plan.
 pub fn suits<X: Arithmetic>(n: usize, buf: usize, work: usize) -> Result<(), Fault>
     ensures answer { result ≡ result_and (divided X.Arithmetic.meaning.span n) (lent_for n buf work) }
 {
