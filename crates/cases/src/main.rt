@@ -66,6 +66,7 @@ fn case(rt: &HostRuntime, name: &str, plan: &str, work: &str) -> anyhow::Result<
     println!(rt; "{name} under {plan} with {work}")?;
     let path = format!(in rt.alloc(); "{name}.stroke")?;
     let bytes = fs::read(rt, path.as_str())?;
+    // A word that is looked at once, here.
     if plan == "standard" {
         standard(rt, &bytes)
     } else {

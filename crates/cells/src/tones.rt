@@ -46,7 +46,8 @@ pub(crate) fn shift_tones<X: Arithmetic>(tones: &mut [X], h: usize)
     }
 }
 
-// Adds the laid samples, place by place.
+// Adds the laid samples, place by place. A loop of three lines, as spectrum's `multiply`: one function of both would take what is
+// done at a place as a closure, and its clause would say less than either.
 pub(crate) fn lay_samples<X: Arithmetic>(under: &mut [X], laid: &[X])
     requires { length under.old ≡ length laid.now }
     ensures after { under.new ≡ laid_on X.Arithmetic.meaning under.old laid.now }

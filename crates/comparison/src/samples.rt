@@ -9,6 +9,7 @@ use arrayvec::ArrayVec;
 use stroke::{FileFault, MOST_SAMPLES, Stroke};
 use writing::Lent;
 
+// Two lists, as a stroke is lent. `few`, below, is what each push into the fixed room owes.
 #[derive(Drop)]
 pub(crate) struct Samples {
     pub(crate) path: ArrayVec<(i16, i16), MOST_SAMPLES>,

@@ -13,6 +13,7 @@ pub struct Status {
     pub place: usize,
 }
 
+// By its name, where a derived `Default` would not say that it grants.
 const GRANTED: Status = Status {
     number: 0,
     layer: 0,

@@ -20,7 +20,7 @@ impl From<Counts> for (i16, i16) {
     }
 }
 
-// A stroke in lent lists, whose samples are copied as tuples, since no tuple crosses.
+// A stroke in lent lists, whose samples are copied as tuples, since no tuple crosses. `few` is what each push owes.
 #[derive(Drop)]
 pub(crate) struct Held<'a> {
     path: ArrayVec<(i16, i16), MOST_SAMPLES>,

@@ -2,6 +2,7 @@
 use std::alloc::Global;
 use writing::Lent;
 
+// Two lists, as they are lent: a stroke may have no pressures.
 #[derive(Drop)]
 pub(crate) struct Given {
     path: Vec<(i16, i16)>,
@@ -23,6 +24,7 @@ fn pair(value: &str) -> anyhow::Result<(i16, i16)> {
     Ok((x, y))
 }
 
+// As the reading of a radix but for the type, at which alone the library says what a text is parsed to.
 fn count(value: &str) -> anyhow::Result<u16> {
     Ok(value.parse()?)
 }

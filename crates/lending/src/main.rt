@@ -40,6 +40,7 @@ fn case(rt: &HostRuntime, line: &str) -> anyhow::Result<()> {
     }
 }
 
+// A loop over lines, as in `exacts`: what they share is the reading of the script.
 fn main(rt: HostRuntime) -> anyhow::Result<()> {
     let text = script(rt.alloc(), rt.stdin())?;
     for line in text.as_str().lines() {

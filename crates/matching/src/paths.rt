@@ -43,7 +43,7 @@ fn conjugate(sample: (i16, i16)) -> Path
     Path::sample(x, -y)
 }
 
-// What `enter` makes of each sample.
+// What `enter` makes of each sample. `few` is what each push into the fixed room owes: no type of a lent list says it.
 // Pressures have their own loop: at a type parameter a push owes that the ArrayVec fits in memory, which is not proved.
 fn elements<F: Fn((i16, i16)) -> Path>(
     path: &[(i16, i16)],

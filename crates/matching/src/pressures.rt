@@ -12,7 +12,7 @@ use arrayvec::ArrayVec;
 use pressure::Pressure;
 use stroke::MOST_SAMPLES;
 
-// Each pressure as an element.
+// Each pressure as an element. `few` is what each push into the fixed room owes: no type of a lent list says it.
 fn elements(counts: &[u16]) -> ArrayVec<Pressure, MOST_SAMPLES>
     requires few { length counts.now ≤ most_samples }
     ensures answer { result.items ≡ entered_pressures counts.now }

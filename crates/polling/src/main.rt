@@ -28,6 +28,7 @@ fn samples(heap: Global, n: usize) -> Result<Vec<Fixed>, AllocError> {
     (0..n).map(sample).collect(heap)
 }
 
+// Lines like those of a spectrum, under a heading of its own.
 fn show(rt: &HostRuntime, heading: &str, number: usize, buf: &[Fixed]) -> anyhow::Result<()> {
     println!(rt; "{heading} {number}")?;
     for (k, value) in buf.iter().enumerate() {

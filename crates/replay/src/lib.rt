@@ -45,6 +45,7 @@ where
     ensures after { cells_of sheet.new ≡ sheet_finally X.Arithmetic.meaning (length_of sheet.old) (map plainly calls.now) (cells_of sheet.old) }
     ensures kept { Kept sheet.old sheet.new }
 {
+    // By number: after `answers.iter_mut().zip(calls)` a proof would know how many answers there are, and not which.
     for (i, call) in calls.iter().enumerate() {
         answers[i] = play(sheet, call);
     }

@@ -1,4 +1,4 @@
-// Runs: a transform taken one stage at a poll.
+// Runs: a transform taken one stage at a poll. Buffer and work are handed over one by one, as a caller lends them.
 #![tactic(auto)]
 
 mod driving;

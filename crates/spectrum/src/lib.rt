@@ -1,4 +1,5 @@
 // Spectra over any arithmetic: deal the samples, then one stage for each radix, where they stand.
+// Radices, buffer and work are handed over one by one, as a caller lends them: C has no struct of borrowed lists.
 #![tactic(auto)]
 
 mod circle;

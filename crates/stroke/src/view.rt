@@ -37,7 +37,7 @@ impl Stroke<'_> {
         self.pressed
     }
 
-    // Where sample `i` begins, if there is such a sample.
+    // Where sample `i` begins, if there is such a sample. A plain `if`: `then` would only put the product into a closure.
     #[tactic(auto, using(crate::proofs::Samples::length_path, crate::proofs::Samples::sample_inside))]
     fn offset(&self, i: usize) -> Option<usize>
         ensures { MatchOption result (length (contents self.now).path ≤ i) (Begins self.now i) }

@@ -19,6 +19,7 @@ fn run(rt: &HostRuntime) -> anyhow::Result<Result<(), Fault>> {
     Ok(Ok(()))
 }
 
+// As the main of `compare`, but for what may stop it, which each says under its own name.
 fn main(rt: HostRuntime) -> anyhow::Result<ExitCode> {
     match run(&rt) {
         Ok(Ok(())) => return Ok(ExitCode::SUCCESS),
