@@ -17,6 +17,7 @@ fn times(word: &str) -> anyhow::Result<(&str, usize)> {
     }
 }
 
+// Both words at once: the library's `parse` is named by its type, and the words of an element are of others.
 fn pair(value: &str) -> anyhow::Result<(i16, i16)> {
     let mut words = value.split(',');
     let x = words.next().unwrap_or("").parse()?;

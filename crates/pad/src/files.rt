@@ -17,7 +17,7 @@ use plan::Plan;
 use refusal::Fault;
 use stroke::Stroke;
 
-// How many tones a spectrum has, and how many turns made them.
+// How many tones a spectrum has, and how many turns made them. The tones lie in the front of what was lent: none is taken for them.
 #[derive(Clone, Copy, Debug, PartialEq, Eq)]
 pub struct Summary {
     pub count: usize,

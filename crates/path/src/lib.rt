@@ -68,6 +68,7 @@ pub struct Reduced {
 }
 
 impl Reduced {
+    // A method and not a `From`, which would say no more and stand in the clauses of every user.
     fn path(self) -> Path
         ensures answer { result ≡ element self }
     {

@@ -1,4 +1,4 @@
-// A list of calls, played on a sheet: each is answered as the plain sheet answers it.
+// A list of calls, played on a sheet: each is answered as the plain sheet answers it. What is lent is handed over one by one.
 #![tactic(auto)]
 
 ghost use Rattle.std.specs.Prelude.{◌≡◌, map, length, OnOk};
