@@ -14,6 +14,7 @@ pub struct Residue<const M: u64> {
     pub ghost modulus: { Modulus M },
 }
 
+// What a constructor asks is of the constant M alone, which is settled when the program is built: nothing that is handed over.
 impl<const M: u64> Residue<M> {
     pub fn of(n: u64) -> Residue<M>
         requires { Modulus M }

@@ -13,7 +13,7 @@ pub trait Sampled {
     fn count(&self) -> usize
         ensures { result ≡ length (holds self.now).path };
 
-    // x, y and the pressure of sample `i`, if there is such a sample. A pressure that is not there is 0.
+    // x, y and the pressure of sample `i`, if there is such a sample. A pressure that is not there is 0, which is in its limits.
     fn sample(&self, i: usize) -> Option<(i16, i16, u16)>
         ensures { result ≡ sample (holds self.now) i };
 
