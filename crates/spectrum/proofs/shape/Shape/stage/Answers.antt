@@ -8,7 +8,7 @@ use Rattle.spectrum.proofs.shape.Shape.stage.Goals as goal
 
 pub offset_bounds-buf-b : goal.offset_bounds-buf-b
 offset_bounds-buf-b g c =
-    let n = c.args.self.now.radix * c.args.self.now.len in
+    let n = c.args.self.radix * c.args.self.len in
     let within = block_within c.loop-b.b _ n _ c.loop-b-test.true refl c.requires.whole in
     let reached : c.loop-b.b * n ≤ length c.args.buf.now = omega arith in
     search (rules, scaled_fits≤)
@@ -16,7 +16,7 @@ offset_bounds-buf-b g c =
 pub loop-b-preserved : goal.loop-b-preserved
 loop-b-preserved g c =
     let m = g.X.Arithmetic.meaning in
-    let s = c.args.self.now in
+    let s = c.args.self in
     let n = s.radix * s.len in
     let b = c.loop-b.b in
     let from = b * n in
@@ -31,7 +31,7 @@ loop-b-preserved g c =
 pub returns-clause-after : goal.returns-clause-after
 unfolding staged
 returns-clause-after g c =
-    let s = c.args.self.now in
+    let s = c.args.self in
     let n = s.radix * s.len in
     let end : c.loop-b.b ≡ length c.args.buf.now / n = omega arith in
     blocks_all (combine g.X.Arithmetic.meaning s.radix s.len) n (length c.args.buf.now / n) c.loop-b.invariant end
