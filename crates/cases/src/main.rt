@@ -8,7 +8,7 @@
 use arithmetic::Arithmetic;
 use casework::{Element, radices};
 use fixed::Fixed;
-use pad::{Failure, report_on, spectrum_text};
+use pad::{Failure, refusal_text, report_on, spectrum_text};
 use refusal::Fault;
 use spectrum::transform;
 use std::alloc::{AllocError, Global};
@@ -22,11 +22,18 @@ fn samples(heap: Global, stroke: &Stroke<'_>) -> Result<Vec<Fixed>, AllocError> 
         .collect(heap)
 }
 
+// Two lines, as in each program: the crate that has the text prints nothing.
+fn refused(rt: &HostRuntime, fault: Fault) -> anyhow::Result<()> {
+    let line = refusal_text(rt.alloc(), fault)?;
+    print!(rt; "{line}")?;
+    Ok(())
+}
+
 // The standard plan, by the call that the program `tones` makes.
 fn standard(rt: &HostRuntime, bytes: &[u8]) -> anyhow::Result<()> {
     match report_on(rt.alloc(), bytes) {
         Ok(text) => print!(rt; "{text}")?,
-        Err(Failure::Refused(fault)) => println!(rt; "refused {fault}")?,
+        Err(Failure::Refused(fault)) => refused(rt, fault)?,
         Err(Failure::Text(e)) => return Err(e.into()),
     }
     Ok(())
@@ -35,10 +42,7 @@ fn standard(rt: &HostRuntime, bytes: &[u8]) -> anyhow::Result<()> {
 fn chosen(rt: &HostRuntime, bytes: &[u8], plan: &str, lent: usize) -> anyhow::Result<()> {
     let stroke = match stroke::read(bytes) {
         Ok(stroke) => stroke,
-        Err(fault) => {
-            println!(rt; "refused {}", Fault::File(fault))?;
-            return Ok(());
-        }
+        Err(fault) => return refused(rt, Fault::File(fault)),
     };
     let radices = radices(rt.alloc(), plan)?;
     let before = samples(rt.alloc(), &stroke)?;
@@ -53,7 +57,7 @@ fn chosen(rt: &HostRuntime, bytes: &[u8], plan: &str, lent: usize) -> anyhow::Re
             }
         }
         Err(fault) => {
-            println!(rt; "refused {fault}")?;
+            refused(rt, fault)?;
             if buf != before || !work.iter().all(|x| *x == Fixed::mark()) {
                 println!(rt; "a lent buffer has changed")?;
             }

@@ -1,3 +1,5 @@
 mod Counting
 mod Limits
+mod Seconds
+mod Spaces
 mod Words

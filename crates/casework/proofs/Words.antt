@@ -1,13 +1,12 @@
 -- The words of an element, taken apart at the comma.
-use Rattle.std.proofs.Common.{◌≡◌, ℕ, zero, suc, ◌^◌, ◌<◌, List, ◌∷◌, ℤ, pos, negsuc, decimal, Option, Some, None, Result, Ok, Err, Bor, subst, unwrap_or, length, length-append, slice_index, ap, sym, ◌∙◌, w32, arith, rules}
+use Rattle.std.proofs.Common.{◌≡◌, ℕ, zero, suc, ◌^◌, ◌<◌, List, ◌∷◌, ℤ, pos, negsuc, decimal, Option, Some, None, Result, Ok, Err, Bor, subst, unwrap_or, sym, w32, arith, rules}
 use Rattle.std.specs.Fmt.{signed_decimal}
 use Rattle.std.specs.Int.RustNames.{FitsSigned}
 use lib.Signed.{mag}
 use Rattle.std.specs.Str.Parse.{AllDigits, digits_value, ParsesUnsigned, ParsesSigned}
 use Rattle.std.proofs.lemmas.Fmt.{digits_decimal, parse-decimal, parse-signed_decimal}
 use Rattle.std.proofs.lemmas.Str.Parse.{IsNumeralModel, numerals_by_value, tells_digits, not_in_digits}
-use Rattle.std.proofs.lemmas.Str.Pattern.{IsSplitOnceResult, split_after, split_parts}
-use Rattle.std.proofs.Math.Seq.{get_or-append_seam}
+use Rattle.std.proofs.lemmas.Str.Pattern.{IsSplitOnceResult, split_after}
 use Rattle.fixed.specs.Range.{InRange}
 use Rattle.casework.specs.Spelling.{comma, Lacks, joined}
 
@@ -24,21 +23,9 @@ found_apart : (text u v : List ℕ) (cut : Option (Bor (List ℕ) × Bor (List �
 found_apart text u v None other split lacks whole = absurd (split_after comma text u v None split (omega arith) whole lacks)
 found_apart text u v (Some p) other split lacks whole = split_after comma text u v (Some p) split (omega arith) whole lacks
 
--- a word that has no comma is not cut
-found_uncut : (rest v : List ℕ) (cut : Option (Bor (List ℕ) × Bor (List ℕ))) (other : Bor (List ℕ) × Bor (List ℕ)) → IsSplitOnceResult comma rest cut → Lacks comma v → rest ≡ v
-    → other.0.now ≡ v → (unwrap_or cut other).0.now ≡ v
-found_uncut rest v None other split lacks is same = same
-found_uncut rest v (Some p) other split lacks is same =
-    let whole = (split_parts comma rest (Some p) split (omega arith)).0 in
-    let long = ap length whole ∙ length-append p.0.now (comma ∷ p.1.now) in
-    absurd (lacks (length p.0.now) (omega (arith, ap length is, long)) (ap (λ bs. slice_index bs (length p.0.now)) (sym is ∙ whole) ∙ get_or-append_seam p.0.now comma p.1.now 0))
-
 module _ (text u v : List ℕ) (cut : Option (Bor (List ℕ) × Bor (List ℕ))) (other got : Bor (List ℕ) × Bor (List ℕ)) (is_got : got ≡ unwrap_or cut other) (split : IsSplitOnceResult comma text cut) where
   pub cut_apart : Lacks comma u → text ≡ joined u v → (got.0.now ≡ u) × (got.1.now ≡ v)
   cut_apart lacks whole = subst (λ p. (p.0.now ≡ u) × (p.1.now ≡ v)) (sym is_got) (found_apart text u v cut other split lacks whole)
-
-  pub uncut : Lacks comma v → text ≡ v → other.0.now ≡ v → got.0.now ≡ v
-  uncut lacks is same = subst (λ p. p.0.now ≡ v) (sym is_got) (found_uncut text v cut other split lacks is same)
 
 fits : (z : ℤ) → InRange z → FitsSigned w32 z
 fits z small = search rules

@@ -1,2 +1,3 @@
 pub mod Spelling
+pub mod Listed
 pub mod Most

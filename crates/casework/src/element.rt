@@ -27,13 +27,23 @@ pub trait Element: Arithmetic + Clone + PartialEq {
         ensures after { OnOk result (string_bytes text.new ≡ string_bytes text.old ++ spelling.printed reading) };
 }
 
-// The two words that a comma joins. One that is missing is empty, and what stands after a second comma is not read.
+// The words on both sides of the first comma. One that is missing is empty.
 fn pair(text: &str) -> (&str, &str)
-    ensures answer { (u v : List ℕ) → Lacks comma u → Lacks comma v → text.now ≡ joined u v → (result.0.now ≡ u) × (result.1.now ≡ v) }
+    ensures answer { (u v : List ℕ) → Lacks comma u → text.now ≡ joined u v → (result.0.now ≡ u) × (result.1.now ≡ v) }
 {
-    let (first, rest) = text.split_once(',').unwrap_or((text, ""));
-    let (second, _) = rest.split_once(',').unwrap_or((rest, ""));
-    (first, second)
+    text.split_once(',').unwrap_or((text, ""))
+}
+
+// A text up to its second comma.
+pub(crate) fn front(text: &str) -> &str
+    ensures cut { (u v more : List ℕ) → Lacks comma u → Lacks comma v → text.now ≡ joined u (joined v more) → result.now ≡ joined u v }
+    ensures whole { (u v : List ℕ) → Lacks comma u → Lacks comma v → text.now ≡ joined u v → result.now ≡ text.now }
+    ensures bare { Lacks comma text.now → result.now ≡ text.now }
+{
+    match text.match_indices(',').nth(1) {
+        Some((at, _)) => &text[..at],
+        None => text,
+    }
 }
 
 impl Element for Pressure {

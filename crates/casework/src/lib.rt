@@ -9,5 +9,5 @@ mod reading;
 mod tests;
 
 pub use element::Element;
-pub use lists::{elements, radices};
+pub use lists::{elements, front_elements, radices};
 pub use reading::{file_bytes, script};

@@ -1,5 +1,5 @@
 // That calls succeed where there is memory, and how a list is taken apart.
-use crate::{Element, elements, file_bytes, radices, script};
+use crate::{Element, elements, file_bytes, front_elements, radices, script};
 use fixed::Fixed;
 use path::Path;
 use pressure::Pressure;
@@ -16,6 +16,33 @@ fn lists_are_read(rt: HostRuntime) -> Result<(), Fail> {
     let want = [Path { u: 1, v: 2 }, Path { u: u32::MAX, v: 0 }];
     assert_eq!(rt; list.as_slice(), want.as_slice());
     assert!(rt; elements::<Fixed>(rt.alloc(), "3,4 5").is_err());
+    Ok(())
+}
+
+#[test]
+fn any_white_space_parts_a_list(rt: HostRuntime) -> Result<(), Fail> {
+    let list = elements::<Pressure>(rt.alloc(), "\t3\t5\u{a0}7\r")?;
+    let want = [
+        Pressure { word: 3 },
+        Pressure { word: 5 },
+        Pressure { word: 7 },
+    ];
+    assert_eq!(rt; list.as_slice(), want.as_slice());
+    assert_eq!(rt; elements::<Path>(rt.alloc(), " \t\r")?.len(), 0);
+    Ok(())
+}
+
+#[test]
+fn a_second_comma_ends_what_is_read(rt: HostRuntime) -> Result<(), Fail> {
+    assert!(rt; elements::<Path>(rt.alloc(), "1,2,3").is_err());
+    let list = front_elements::<Path>(rt.alloc(), "1,2,3\r4,5,x 6,7")?;
+    let want = [
+        Path { u: 1, v: 2 },
+        Path { u: 4, v: 5 },
+        Path { u: 6, v: 7 },
+    ];
+    assert_eq!(rt; list.as_slice(), want.as_slice());
+    assert!(rt; front_elements::<Pressure>(rt.alloc(), "1,2,3").is_err());
     Ok(())
 }
 

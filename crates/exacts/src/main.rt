@@ -3,12 +3,14 @@
 //
 // A case is a line: the arithmetic, the call, the radices joined by commas ('-' for none), and how many elements of
 // work are lent. After a ':' come the lent lists, a '|' between two: one for transform and inverse; for convolve both
-// factors, and what lies where the result goes. The words of one element are joined by a comma.
+// factors, and what lies where the result goes. The words of one element are joined by a comma, and what stands after a
+// second one is not read.
 #![tactic(auto)]
 
 use anyhow::anyhow;
-use casework::{Element, elements, radices, script};
+use casework::{Element, front_elements, radices, script};
 use fixed::Fixed;
+use pad::refusal_text;
 use path::Path;
 use pressure::Pressure;
 use refusal::Fault;
@@ -45,7 +47,8 @@ fn print_end<X: Element>(
             }
         }
         Err(fault) => {
-            println!(rt; "refused {fault}")?;
+            let line = refusal_text(rt.alloc(), fault)?;
+            print!(rt; "{line}")?;
             if buf != before || !work.iter().all(|x| *x == X::mark()) {
                 println!(rt; "a lent buffer has changed")?;
             }
@@ -63,7 +66,7 @@ fn run_in_place<X: Element, F: FnOnce(&mut [X], &mut [X]) -> Result<Option<usize
 ) -> anyhow::Result<()>
     requires { F.IsAlwaysCallable call }
 {
-    let before = elements::<X>(rt.alloc(), lists)?;
+    let before = front_elements::<X>(rt.alloc(), lists)?;
     let mut buf = before.clone()?;
     let answer = call(&mut buf, work);
     if let Ok(Some(turns)) = &answer {
@@ -81,12 +84,14 @@ fn run_convolve<X: Element>(
     let mut lists = lists.split('|');
     let first = lists.next().unwrap_or("");
     let second = lists.next().unwrap_or("");
-    let a = elements::<X>(rt.alloc(), first)?;
-    let b = elements::<X>(rt.alloc(), second)?;
-    let before = elements::<X>(rt.alloc(), lists.next().unwrap_or(""))?;
+    let a = front_elements::<X>(rt.alloc(), first)?;
+    let b = front_elements::<X>(rt.alloc(), second)?;
+    let before = front_elements::<X>(rt.alloc(), lists.next().unwrap_or(""))?;
     let mut out = before.clone()?;
     let answer = convolve(radices, &a, &b, &mut out, work);
-    if a != elements::<X>(rt.alloc(), first)? || b != elements::<X>(rt.alloc(), second)? {
+    if a != front_elements::<X>(rt.alloc(), first)?
+        || b != front_elements::<X>(rt.alloc(), second)?
+    {
         println!(rt; "a factor has changed")?;
     }
     print_end(rt, answer, &before, &out, work)

@@ -13,11 +13,13 @@ mod writes;
 use anyhow::anyhow;
 use casework::script;
 use matches::run_match;
+use pad::refusal_text;
 use refusal::Fault;
 use writes::run_write;
 
 pub(crate) fn print_refusal(rt: &HostRuntime, fault: Fault, changed: bool) -> anyhow::Result<()> {
-    println!(rt; "refused {fault}")?;
+    let line = refusal_text(rt.alloc(), fault)?;
+    print!(rt; "{line}")?;
     if changed {
         println!(rt; "the output has changed")?;
     }

@@ -10,6 +10,7 @@ use agreement::agreement;
 use anyhow::anyhow;
 use arithmetic::Arithmetic;
 use casework::{Element, elements, script};
+use pad::refusal_text;
 use path::Path;
 use plan::Plan;
 use pressure::Pressure;
@@ -17,10 +18,17 @@ use refusal::Fault;
 use sheet::{Sheet, open};
 use spectrum::SCRATCH;
 
+// Two lines, as in each program: the crate that has the text prints nothing.
+fn print_refusal(rt: &HostRuntime, fault: Fault) -> anyhow::Result<()> {
+    let line = refusal_text(rt.alloc(), fault)?;
+    print!(rt; "{line}")?;
+    Ok(())
+}
+
 fn print_answer(rt: &HostRuntime, answer: Result<(), Fault>) -> anyhow::Result<()> {
     match answer {
         Ok(()) => println!(rt; "done")?,
-        Err(fault) => println!(rt; "refused {fault}")?,
+        Err(fault) => print_refusal(rt, fault)?,
     }
     Ok(())
 }
@@ -36,7 +44,7 @@ fn play_tone<X: Element>(
             X::write(tone, &mut text)?;
             println!(rt; "tone {text}")?;
         }
-        Err(fault) => println!(rt; "refused {fault}")?,
+        Err(fault) => print_refusal(rt, fault)?,
     }
     Ok(())
 }
@@ -81,7 +89,7 @@ fn perform<X: Element>(rt: &HostRuntime, samples: &str, calls: &str) -> anyhow::
                 play(rt, &mut sheet, line)?;
             }
         }
-        Err(fault) => println!(rt; "refused {fault}")?,
+        Err(fault) => print_refusal(rt, fault)?,
     }
     Ok(())
 }

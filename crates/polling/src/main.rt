@@ -6,6 +6,7 @@ use anyhow::anyhow;
 use arithmetic::Arithmetic;
 use casework::Element;
 use fixed::Fixed;
+use pad::refusal_text;
 use pressure::Pressure;
 use refusal::Fault;
 use runs::Run;
@@ -37,8 +38,10 @@ fn show(rt: &HostRuntime, heading: &str, number: usize, buf: &[Fixed]) -> anyhow
     Ok(())
 }
 
+// Two lines, as in each program: the crate that has the text prints nothing.
 fn refused(rt: &HostRuntime, fault: Fault) -> anyhow::Result<()> {
-    println!(rt; "refused {fault}")?;
+    let line = refusal_text(rt.alloc(), fault)?;
+    print!(rt; "{line}")?;
     Ok(())
 }
 
