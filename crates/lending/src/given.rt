@@ -41,8 +41,11 @@ fn values<T: Copy, F: Fn(&str) -> anyhow::Result<T>>(
     let mut list = Vec::new(heap);
     for word in text.split_whitespace() {
         let (value, count) = times(word)?;
-        let long = list.len().saturating_add(count);
-        list.resize(long, read(value)?)?;
+        let value = read(value)?;
+        // One at a time: `resize` makes no more room than it is asked for, and the next word then doubles it.
+        for _ in 0..count {
+            list.push(value)?;
+        }
     }
     Ok(list)
 }
