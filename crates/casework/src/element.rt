@@ -40,8 +40,11 @@ pub(crate) fn front(text: &str) -> &str
     ensures whole { (u v : List ℕ) → Lacks comma u → Lacks comma v → text.now ≡ joined u v → result.now ≡ text.now }
     ensures bare { Lacks comma text.now → result.now ≡ text.now }
 {
-    match text.match_indices(',').nth(1) {
-        Some((at, _)) => &text[..at],
+    let Some((first, rest)) = text.split_once(',') else {
+        return text;
+    };
+    match rest.split_once(',') {
+        Some((second, _)) => &text[..first.len() + 1 + second.len()],
         None => text,
     }
 }

@@ -22,7 +22,7 @@ pub fn radices(heap: Global, text: &str) -> anyhow::Result<Vec<u8>>
     text.split(',').map(radix).try_collect(heap)
 }
 
-// What is read of each word of a list, which white space parts.
+// What is read of each word of a list, which white space parts. The two below hand its clauses on.
 fn each_word<X: Element, F: FnMut(&str) -> anyhow::Result<X>>(
     heap: Global,
     text: &str,

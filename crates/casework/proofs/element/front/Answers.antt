@@ -1,25 +1,23 @@
-use Rattle.std.proofs.Common.{◌≡◌, ◌+◌, length, IsSomeAnd, subst, ◌∙◌}
-use Rattle.casework.proofs.Seconds.{second, no_second, up_to_second}
+use Rattle.std.proofs.Common.{length, ap, ◌∙◌, arith}
+use Rattle.casework.specs.Spelling.{joined}
+use Rattle.casework.proofs.Seconds.{apart, uncut, not_cut, up_to_second}
 use Rattle.casework.proofs.element.front.Goals as goal
 
-pub returns-in-Some-clause-cut : goal.returns-in-Some-clause-cut
-returns-in-Some-clause-cut c = λ u v more lacks_u lacks_v whole.
-    let s = c.match_indices.ensures in
-    let ran = c.nth.ensures.ran in
-    let at = second c.match_indices.result s.offset s.pattern u lacks_u v more lacks_v (s.text ∙ whole) ran.0 ran.1.0 c.nth.new.self c.nth.result ran.1.1 ran.1.2 ran.2 in
-    c.range.ensures.value ∙ up_to_second c.args.text.now u v more c.in-Some.at whole (subst (λ r. IsSomeAnd r (λ x. x.0 ≡ length u + 1 + length v)) c.in-Some.is at)
+pub returns-in_default-clause-cut : goal.returns-in_default-clause-cut
+returns-in_default-clause-cut c = λ u v more lacks_u lacks_v whole. absurd (uncut c.args.text.now c.split_once.result c.split_once.ensures.cases u (joined v more) c.in_default.is lacks_u whole)
 
-pub returns-in-Some-clause-whole : goal.returns-in-Some-clause-whole
-returns-in-Some-clause-whole c = λ u v lacks_u lacks_v whole.
-    let s = c.match_indices.ensures in
-    let ran = c.nth.ensures.ran in
-    let none = no_second c.match_indices.result s.offset s.pattern u lacks_u v lacks_v (s.text ∙ whole) ran.0 ran.1.0 c.nth.new.self c.nth.result ran.1.1 ran.1.2 ran.2 in
-    let some = c.in-Some.is in
-    cc
+pub returns-in-Some-split_once-clause-cut : goal.returns-in-Some-split_once-clause-cut
+returns-in-Some-split_once-clause-cut c = λ u v more lacks_u lacks_v whole.
+    let first = apart c.args.text.now c.split_once.result c.split_once.ensures.cases u (joined v more) _ c.in-Some.is lacks_u whole in
+    let second = apart c.in-Some.rest.now c.split_once-2.result c.split_once-2.ensures.cases v more _ c.in-Some-split_once.is lacks_v first.1 in
+    c.range.ensures.value ∙ up_to_second c.args.text.now u v more _ whole (omega (arith, ap length first.0, ap length second.0))
+
+pub returns-in-Some-split_once-clause-whole : goal.returns-in-Some-split_once-clause-whole
+returns-in-Some-split_once-clause-whole c = λ u v lacks_u lacks_v whole.
+    let first = apart c.args.text.now c.split_once.result c.split_once.ensures.cases u v _ c.in-Some.is lacks_u whole in
+    absurd (not_cut c.in-Some.rest.now c.split_once-2.result c.split_once-2.ensures.cases _ c.in-Some-split_once.is (rw first.1 lacks_v))
 
 pub returns-in-None-clause-cut : goal.returns-in-None-clause-cut
 returns-in-None-clause-cut c = λ u v more lacks_u lacks_v whole.
-    let s = c.match_indices.ensures in
-    let ran = c.nth.ensures.ran in
-    let at = second c.match_indices.result s.offset s.pattern u lacks_u v more lacks_v (s.text ∙ whole) ran.0 ran.1.0 c.nth.new.self c.nth.result ran.1.1 ran.1.2 ran.2 in
-    absurd (subst (λ r. IsSomeAnd r (λ x. x.0 ≡ length u + 1 + length v)) c.in-None.is at)
+    let first = apart c.args.text.now c.split_once.result c.split_once.ensures.cases u (joined v more) _ c.in-Some.is lacks_u whole in
+    absurd (uncut c.in-Some.rest.now c.split_once-2.result c.split_once-2.ensures.cases v more c.in-None.is lacks_v first.1)
