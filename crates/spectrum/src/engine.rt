@@ -91,7 +91,7 @@ impl<X: Arithmetic> Shape<X> {
 
     // The stage of the radix, where those after it have the product `len`: every block. Answers the turns made.
     // By value: through a reference each tone would read the shape again, which what was written might have changed, and a
-    // transform in the fixed arithmetic under twos takes a fifth longer.
+    // transform in the fixed arithmetic under twos takes a quarter longer.
     pub(crate) fn stage(self, buf: &mut [X], scratch: &mut [X]) -> usize
         requires whole { length buf.old % (self.radix * self.len) ≡ 0 }
         requires fits { length buf.old < 2 ^ 32 }
