@@ -34,15 +34,14 @@ impl<'a> Held<'a> {
         ensures answer { kept result ≡ lent_stroke path.now pressure.now }
     {
         // A loop of its own: at a type parameter a push owes that the ArrayVec fits in memory, which is not proved.
-        // Into the room that is handed out: a vector that is moved into it afterwards is copied whole.
-        let mut held = Held {
-            path: ArrayVec::new(),
-            pressure,
-        };
+        let mut tuples = ArrayVec::new();
         for sample in path {
-            held.path.push((*sample).into());
+            tuples.push((*sample).into());
         }
-        held
+        Held {
+            path: tuples,
+            pressure,
+        }
     }
 
     pub(crate) fn lent(&self) -> Lent<'_>

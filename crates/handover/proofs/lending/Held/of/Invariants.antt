@@ -4,4 +4,4 @@ use Rattle.handover.proofs.lending.Held.of.Given as goal
 
 -- the samples so far
 abbrev pub invariant-loop-sample : goal.invariant-loop-sample
-invariant-loop-sample l = (l.held.path.items ≡ pairs (take l.sample-index l.path)) × (l.held.pressure.now ≡ l.pressure)
+invariant-loop-sample l = l.tuples.items ≡ pairs (take l.sample-index l.path)
